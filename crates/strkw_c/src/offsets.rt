@@ -22,8 +22,8 @@ pub extern "C" fn strkw_nonnull_check_offsets(
     offsets: &[usize],
     verdicts: &mut [u8],
 ) -> u8
-    ensures { IsJudgedBetween draft options schema.now texts.now offsets.now verdicts.old verdicts.new
-        result }
+    ensures { IsJudgedBetween draft options schema.now texts.now offsets.now
+        verdicts.old verdicts.new result }
 {
     let offsets = Ends::Wide(offsets);
     check_between(alloc, draft, options, schema, texts, &offsets, verdicts)
@@ -40,8 +40,8 @@ pub extern "C" fn strkw_nonnull_check_offsets32(
     offsets: &[u32],
     verdicts: &mut [u8],
 ) -> u8
-    ensures { IsJudgedBetween draft options schema.now texts.now offsets.now verdicts.old verdicts.new
-        result }
+    ensures { IsJudgedBetween draft options schema.now texts.now offsets.now
+        verdicts.old verdicts.new result }
 {
     let offsets = Ends::Narrow(offsets);
     check_between(alloc, draft, options, schema, texts, &offsets, verdicts)

@@ -149,7 +149,8 @@ impl<'a> Parts<'a> {
         requires { IfSome line.cached (λ object. IsCached object.now) }
         ensures ok { OnOk result ((d : Data)
             × (value_read member_depth tokens.old ≡ Some (d, tokens.new))
-            × Takes (is_some line.entry.cached) name.now d values.old values.new self.old self.new) }
+            × Takes (is_some line.entry.cached) name.now d values.old values.new
+            self.old self.new) }
         ensures none { IsErrOf result Unread.NotJson → value_read member_depth tokens.old ≡ None }
         ensures same { line.entry.cached ≡ None → IsErrOf result Unread.Differs → ⊥ }
         ensures shorter { OnOk result (length tokens.new < length tokens.old) }

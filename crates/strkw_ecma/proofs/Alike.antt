@@ -6,7 +6,7 @@ use Rattle.std.specs.Prelude.{is_some}
 use Rattle.strkw_ecma.specs.Tree.{Look, Pattern, empty, class, look, cat, alt, star, plus, lookbehind, lookahead, start, end, boundary, no_boundary}
 use Rattle.strkw_ecma.specs.Tree.{in_sets, differ}
 use Rattle.strkw_ecma.specs.Meaning.{is_word, is_edge, holds}
-use Rattle.strkw_ecma.specs.machine.Marks.{reads, sees, leaves, step, classes, marked}
+use Rattle.strkw_ecma.specs.machine.Marks.{reads, sees, leaves, step, classes, mark_classes}
 use Rattle.strkw_ecma.specs.machine.Columns.{answers, place_of, sees_boundary, has_boundary, TellsSets, TellsGlance, Tells}
 use Rattle.strkw_ecma.specs.Program.{asks_word}
 use Rattle.strkw_ecma.specs.declared.tree.CharSet.{CharSet}
@@ -177,7 +177,7 @@ module _ (ks : List (Vec CharSet Global)) (c d : ℕ) (same : answers 0 ks c ≡
     same_step (lookahead n p) x word t = refl
 
 -- with marks a pattern asks the same
-pub marked_tells : (ks : List (Vec CharSet Global)) (ms : List Bool) (p : Pattern) → Tells ks p → Tells ks (marked ms p)
+pub marked_tells : (ks : List (Vec CharSet Global)) (ms : List Bool) (p : Pattern) → Tells ks p → Tells ks (mark_classes ms p)
 marked_tells ks ms empty t = t
 marked_tells ks ms (class m n rs) t = t
 marked_tells ks ms (look l) t = t
@@ -189,7 +189,7 @@ marked_tells ks ms (lookbehind n p) t = marked_tells ks ms p t
 marked_tells ks ms (lookahead n p) t = t
 
 -- marks change nothing of whether \b or \B stands in a pattern
-marked_boundary : (ms : List Bool) (p : Pattern) → has_boundary (marked ms p) ≡ has_boundary p
+marked_boundary : (ms : List Bool) (p : Pattern) → has_boundary (mark_classes ms p) ≡ has_boundary p
 marked_boundary ms empty = refl
 marked_boundary ms (class m n rs) = refl
 marked_boundary ms (look l) = refl
@@ -201,6 +201,6 @@ marked_boundary ms (lookbehind n p) = marked_boundary ms p
 marked_boundary ms (lookahead n p) = refl
 
 -- characters alike for a pattern are alike for it with other marks
-pub marked_word : (ms : List Bool) (p : Pattern) (b e : Option ℕ) → SameWord p b e → SameWord (marked ms p) b e
+pub marked_word : (ms : List Bool) (p : Pattern) (b e : Option ℕ) → SameWord p b e → SameWord (mark_classes ms p) b e
 unfolding SameWord
 marked_word ms p b e same h = same (sym (marked_boundary ms p) ∙ h)

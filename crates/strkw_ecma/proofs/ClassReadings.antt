@@ -10,7 +10,7 @@ use Rattle.strkw_ecma.specs.Classes.{class_property, Ranges, no_ranges, with_one
 use Rattle.strkw_ecma.specs.Classes.{negation_spelling, ending_spelling, IsClassAtom, is_hyphen, is_caret, MayBegin, MayFollow, MayEnd, AreRanges}
 use Rattle.strkw_ecma.specs.Syntax.{Disjunction, bracketed}
 use Rattle.strkw_ecma.specs.machine.Reading.{Outer, Level, Last, State, Pending, fresh, one, dashed, Class, Mode, between, class_opened, in_class, with_mode}
-use Rattle.strkw_ecma.specs.machine.Reading.{with_atom, took, ranged, within, on_class_token, on_class_escape, on_class_coding, when}
+use Rattle.strkw_ecma.specs.machine.Reading.{with_atom, take_atom, take_range, with_class, on_class_token, on_class_escape, on_class_coding, when}
 use Rattle.strkw_ecma.specs.machine.Reading.{class_coding, in_class_property, on_class_property, on_bracket, read_from}
 use Rattle.strkw_ecma.proofs.CodeReadings.{follow, code_tail, begun, reads_code}
 use Rattle.strkw_ecma.proofs.PropertyReadings.{follow_property, reads_property}
@@ -33,7 +33,7 @@ place n (with_range r x y) = in_class (class_so_far n (with_range r x y) fresh)
 
 -- where two atoms bound a range, the class gets it and nothing is pending
 ranged_some : (n : Bool) (r : Ranges) (x y : ClassAtom) (o : Option CharSet) → is_some o ≡ true
-    → ranged {M = trees} n r x y o ≡ Some (class_so_far n (with_range r x y) fresh)
+    → take_range {M = trees} n r x y o ≡ Some (class_so_far n (with_range r x y) fresh)
 ranged_some n r x y None h = absurd (true≢false (sym h))
 ranged_some n r x y (Some s) h = refl
 
@@ -54,7 +54,7 @@ module _ (outer : Outer trees) (l : Level trees) (x : Last trees) where
 
     -- and behind the whole
     abbrev behind_whole : Code → List ℕ → Option Disjunction
-    behind_whole d cs = then (within (standing outer l x) (took n r p (class_coded d))) cs
+    behind_whole d cs = then (with_class (standing outer l x) (take_atom n r p (class_coded d))) cs
 
     -- the rest behind a character of it is read as behind the part or the whole that this makes
     follows : (o : Coded trees) (cs : List ℕ) → then (on_class_coding (standing outer l x) (class_so_far n r p) o) cs ≡ follow behind_part behind_whole o cs
@@ -102,16 +102,16 @@ module _ (outer : Outer trees) (l : Level trees) (x : Last trees) where
     -- it is read from its spelling, and the class takes it where it may
     reads_class_property : (b : Bool) (e : Expression) → IsExpression e → (cs : List ℕ)
         → read_from (at (in_class (class_so_far n r p))) (class_atom_spelling (class_property b e) ++ cs)
-        ≡ then (within (standing outer l x) (took n r p (class_property b e))) cs
+        ≡ then (with_class (standing outer l x) (take_atom n r p (class_property b e))) cs
     reads_class_property b e h cs =
         property_begins b (byte "{" ∷ ((expression_spelling e ++ byte "}" ∷ []) ++ cs))
         ∙ reads_property behind_property_part behind_property (λ k c cs. property_follows (property_next k c) cs) b e h.0 cs
-        ∙ ap (λ (t : Bool). then (when t (within (standing outer l x) (took n r p (class_property b e)))) cs) h.1
+        ∙ ap (λ (t : Bool). then (when t (with_class (standing outer l x) (take_atom n r p (class_property b e)))) cs) h.1
 
   -- one atom, from inside a class
   -- each that is no `-` is read from its spelling, and the class takes it where it may
   reads_inside : (n : Bool) (r : Ranges) (p : Pending trees) (y : ClassAtom) → IsClassAtom y → is_hyphen y ≡ false → (cs : List ℕ)
-      → read_from (at (in_class (class_so_far n r p))) (class_atom_spelling y ++ cs) ≡ then (within (standing outer l x) (took n r p y)) cs
+      → read_from (at (in_class (class_so_far n r p))) (class_atom_spelling y ++ cs) ≡ then (with_class (standing outer l x) (take_atom n r p y)) cs
   reads_inside n r p (class_plain c) h w cs = ap (λ (k : ClassToken). then (on_class_token (standing outer l x) (class_so_far n r p) c k) cs) h
   reads_inside n r p hyphen h w cs = absurd (true≢false w)
   reads_inside n r p (class_escaped c) h w cs = ap (λ (k : Escape). then (on_class_escape (standing outer l x) (class_so_far n r p) c k) cs) h
@@ -135,7 +135,8 @@ module _ (outer : Outer trees) (l : Level trees) (x : Last trees) where
 
   -- the same behind an atom and a `-`, where it is to end a range
   reads_dashed : (n : Bool) (r : Ranges) (z y : ClassAtom) → IsClassAtom y → (cs : List ℕ)
-      → read_from (at (in_class (class_so_far n r (dashed z)))) (class_atom_spelling y ++ cs) ≡ then (within (standing outer l x) (took n r (dashed z) y)) cs
+      → read_from (at (in_class (class_so_far n r (dashed z)))) (class_atom_spelling y ++ cs)
+      ≡ then (with_class (standing outer l x) (take_atom n r (dashed z) y)) cs
   reads_dashed n r z (class_plain c) h cs = reads_inside n r (dashed z) (class_plain c) h refl cs
   reads_dashed n r z hyphen h cs = refl
   reads_dashed n r z (class_escaped c) h cs = reads_inside n r (dashed z) (class_escaped c) h refl cs
@@ -185,7 +186,7 @@ module _ (outer : Outer trees) (l : Level trees) (x : Last trees) where
       ∙ append_assoc (ranges_spelling r) (class_atom_spelling y) (back ++ cs))
       ∙ reads_ranges n r h.0 (class_atom_spelling y ++ (back ++ cs)) ∙ reads_one n r y h.1.0 h.1.1 (back ++ cs)
       ∙ reads_dashed n r y z h.2 cs
-      ∙ ap (λ (o : Option (Class trees)). then (within (standing outer l x) o) cs) (ranged_some n r y z (range (item y) (item z)) h.3)
+      ∙ ap (λ (o : Option (Class trees)). then (with_class (standing outer l x) o) cs) (ranged_some n r y z (range (item y) (item z)) h.3)
 
   -- the end of a class is read, and the class is the last atom
   closes : (n : Bool) (r : Ranges) (e : Bool) → MayEnd e r → (cs : List ℕ)

@@ -13,8 +13,9 @@ use Rattle.strkw_ecma.specs.Syntax.{Disjunction, Alternative, more, Term, Atom, 
 use Rattle.strkw_ecma.specs.Syntax.{term_spelling, atom_spelling}
 use Rattle.strkw_ecma.specs.machine.Reading.{Open, Outer, Level, Last, none, atom, counted, Pending, fresh, one, dashed, Class, Mode, between, escaping}
 use Rattle.strkw_ecma.specs.machine.Reading.{opening, extending, class_opened, Count, low, high, counting, in_class, class_escaping, coding, class_coding}
-use Rattle.strkw_ecma.specs.machine.Reading.{in_property, in_class_property, naming, name_escaping, name_coding, State, all_terms, joined, with_atom, took}
-use Rattle.strkw_ecma.specs.machine.Reading.{took_dash, ranged, whole_class, within, on_class_token, on_class_escape, on_class_coding, when}
+use Rattle.strkw_ecma.specs.machine.Reading.{in_property, in_class_property, naming, name_escaping, name_coding, State, all_terms, join_alternatives, with_atom}
+use Rattle.strkw_ecma.specs.machine.Reading.{take_atom}
+use Rattle.strkw_ecma.specs.machine.Reading.{take_dash, take_range, whole_class, with_class, on_class_token, on_class_escape, on_class_coding, when}
 use Rattle.strkw_ecma.specs.machine.Reading.{with_mode, on_class_property}
 use Rattle.strkw_ecma.proofs.Letters.{char_of_letter, char_of_class}
 use Rattle.strkw_ecma.proofs.CodeReadings.{coding_spelling, IsCodedAs}
@@ -96,7 +97,7 @@ level_ended_spelling (Some d) a x =
     ap (λ z. spelling d ++ byte "|" ∷ z) (ended_spelling a x) ∙ sym (append_assoc (spelling d) (byte "|" ∷ alternative_spelling a) (last_spelling x))
 
 -- the alternatives of a level, joined, are spelled as the level is
-pub joined_spelling : (e : Option Disjunction) (a : Alternative) → spelling (joined trees e a) ≡ level_spelling e a
+pub joined_spelling : (e : Option Disjunction) (a : Alternative) → spelling (join_alternatives trees e a) ≡ level_spelling e a
 joined_spelling None a = refl
 joined_spelling (Some d) a = refl
 
@@ -122,7 +123,7 @@ HasTaken (Some k) text = class_text k.negated k.ranges k.pending ≡ text
 
 -- a class that gets a range has read what it had, and the last atom of the range
 ranged_read : (n : Bool) (r : Ranges) (w y : ClassAtom) (o : Option CharSet)
-    → HasTaken (ranged n r w y o) (class_text n r (dashed w) ++ class_atom_spelling y)
+    → HasTaken (take_range n r w y o) (class_text n r (dashed w) ++ class_atom_spelling y)
 ranged_read n r w y None = tt
 ranged_read n r w y (Some s) = append-nil _ ∙ regroup (negation_spelling n) (ranges_spelling r) (class_atom_spelling w) (class_atom_spelling y)
   where
@@ -133,14 +134,14 @@ ranged_read n r w y (Some s) = append-nil _ ∙ regroup (negation_spelling n) (r
         ∙ ap (λ z. (a ++ b) ++ z) (sym (append_assoc c (byte "-" ∷ []) d)) ∙ sym (append_assoc (a ++ b) (c ++ byte "-" ∷ []) d)
 
 -- a class behind an atom has read what it had, and the atom
-took_read : (n : Bool) (r : Ranges) (p : Pending trees) (y : ClassAtom) → HasTaken (took n r p y) (class_text n r p ++ class_atom_spelling y)
+took_read : (n : Bool) (r : Ranges) (p : Pending trees) (y : ClassAtom) → HasTaken (take_atom n r p y) (class_text n r p ++ class_atom_spelling y)
 took_read n r fresh y = ap (λ z. z ++ class_atom_spelling y) (sym (append-nil (negation_spelling n ++ ranges_spelling r)))
 took_read n r (one w) y =
     ap (λ z. z ++ class_atom_spelling y) (sym (append_assoc (negation_spelling n) (ranges_spelling r) (class_atom_spelling w)))
 took_read n r (dashed w) y = ranged_read n r w y _
 
 -- and behind a dash, what it had and the dash
-dash_read : (n : Bool) (r : Ranges) (p : Pending trees) → HasTaken (took_dash n r p) (class_text n r p ++ byte "-" ∷ [])
+dash_read : (n : Bool) (r : Ranges) (p : Pending trees) → HasTaken (take_dash n r p) (class_text n r p ++ byte "-" ∷ [])
 dash_read n r fresh = took_read n r fresh hyphen
 dash_read n r (one w) = sym (append_assoc (negation_spelling n ++ ranges_spelling r) (class_atom_spelling w) (byte "-" ∷ []))
 dash_read n r (dashed w) = took_read n r (dashed w) hyphen
@@ -161,7 +162,8 @@ module _ (outer : Outer trees) (l : Level trees) where
   atom_read x a = append-nil _ ∙ ap (λ z. z ++ atom_spelling a) (whole x)
 
   -- a state in a class has read what stands before the class, and what the class has
-  within_read : (x : Last trees) (o : Option (Class trees)) (t : List ℕ) → HasTaken o t → (u : List ℕ) → before x ++ t ≡ u → HasRead (within (standing outer l x) o) u
+  within_read : (x : Last trees) (o : Option (Class trees)) (t : List ℕ) → HasTaken o t → (u : List ℕ) → before x ++ t ≡ u
+      → HasRead (with_class (standing outer l x) o) u
   within_read x None t h u e = tt
   within_read x (Some k) t h u e = ap (λ z. before x ++ z) h ∙ e
 
@@ -190,10 +192,10 @@ module _ (outer : Outer trees) (l : Level trees) where
   class_token_read x n r p c class_escaper e =
       sym (append_assoc (before x) (class_text n r p) (byte "\\" ∷ [])) ∙ ap (λ z. (before x ++ class_text n r p) ++ z ∷ []) e
   class_token_read x n r p c dash e =
-      within_read x (took_dash n r p) _ (dash_read n r p) _
+      within_read x (take_dash n r p) _ (dash_read n r p) _
       (sym (append_assoc (before x) (class_text n r p) (byte "-" ∷ [])) ∙ ap (λ z. (before x ++ class_text n r p) ++ z ∷ []) e)
   class_token_read x n r p c class_char e =
-      within_read x (took n r p (class_plain c)) _ (took_read n r p (class_plain c)) _ (sym (append_assoc (before x) (class_text n r p) (c ∷ [])))
+      within_read x (take_atom n r p (class_plain c)) _ (took_read n r p (class_plain c)) _ (sym (append_assoc (before x) (class_text n r p) (c ∷ [])))
 
   -- behind a backslash and s, where this and the letter c are spelled so
   behind : (x : Last trees) (n : Bool) (r : Ranges) (p : Pending trees) (s : List ℕ) (c : ℕ) (t : List ℕ) → t ≡ byte "\\" ∷ (s ++ c ∷ [])
@@ -205,8 +207,8 @@ module _ (outer : Outer trees) (l : Level trees) where
 
   -- behind an escape of one letter in a class, the backslash and the letter are read too
   letter_read : (x : Last trees) (n : Bool) (r : Ranges) (p : Pending trees) (c : ℕ) (y : ClassAtom) → class_atom_spelling y ≡ byte "\\" ∷ c ∷ []
-      → HasRead (within (standing outer l x) (took n r p y)) ((before x ++ (class_text n r p ++ byte "\\" ∷ [])) ++ c ∷ [])
-  letter_read x n r p c y e = within_read x (took n r p y) _ (took_read n r p y) _ (behind x n r p [] c _ e)
+      → HasRead (with_class (standing outer l x) (take_atom n r p y)) ((before x ++ (class_text n r p ++ byte "\\" ∷ [])) ++ c ∷ [])
+  letter_read x n r p c y e = within_read x (take_atom n r p y) _ (took_read n r p y) _ (behind x n r p [] c _ e)
 
   -- and behind the letter that begins an escape by a number
   coding_begun : (x : Last trees) (n : Bool) (r : Ranges) (p : Pending trees) (c : ℕ) (k : Coding trees) → coding_spelling k ≡ c ∷ []
@@ -214,17 +216,19 @@ module _ (outer : Outer trees) (l : Level trees) where
   coding_begun x n r p c k e = behind x n r p [] c (byte "\\" ∷ coding_spelling k) (ap (λ z. byte "\\" ∷ z) e)
 
   -- behind one more character of an escape by a number in a class, that is read too
-  pub class_coding_read : (x : Last trees) (n : Bool) (r : Ranges) (p : Pending trees) (k : Coding trees) (c : ℕ) (o : Coded trees) → IsCodedAs o (coding_spelling k ++ c ∷ [])
+  pub class_coding_read : (x : Last trees) (n : Bool) (r : Ranges) (p : Pending trees) (k : Coding trees) (c : ℕ) (o : Coded trees)
+      → IsCodedAs o (coding_spelling k ++ c ∷ [])
       → HasRead (on_class_coding (standing outer l x) (class_so_far n r p) o) ((before x ++ (class_text n r p ++ byte "\\" ∷ coding_spelling k)) ++ c ∷ [])
   class_coding_read x n r p k c fails h = tt
   class_coding_read x n r p k c (goes m) h = behind x n r p (coding_spelling k) c (byte "\\" ∷ coding_spelling m) (ap (λ z. byte "\\" ∷ z) h)
   class_coding_read x n r p k c (makes d) h =
-      within_read x (took n r p (class_coded d)) _ (took_read n r p (class_coded d)) _
+      within_read x (take_atom n r p (class_coded d)) _ (took_read n r p (class_coded d)) _
       (behind x n r p (coding_spelling k) c (class_atom_spelling (class_coded d)) (ap (λ z. byte "\\" ∷ z) h))
 
   -- behind the letter that begins a property in a class, the backslash and the letter are read too
   property_begun : (x : Last trees) (n : Bool) (r : Ranges) (p : Pending trees) (c : ℕ) (b : Bool) → part_spelling (brace_awaited b) ≡ c ∷ []
-      → spelled (with_mode (standing outer l x) (in_class_property (class_so_far n r p) (brace_awaited b))) ≡ (before x ++ (class_text n r p ++ byte "\\" ∷ [])) ++ c ∷ []
+      → spelled (with_mode (standing outer l x) (in_class_property (class_so_far n r p) (brace_awaited b)))
+      ≡ (before x ++ (class_text n r p ++ byte "\\" ∷ [])) ++ c ∷ []
   property_begun x n r p c b e = behind x n r p [] c (byte "\\" ∷ part_spelling (brace_awaited b)) (ap (λ z. byte "\\" ∷ z) e)
 
   -- behind one more character of a property in a class, that is read too
@@ -235,8 +239,8 @@ module _ (outer : Outer trees) (l : Level trees) where
   class_property_read x n r p k c (property_goes m) h =
       behind x n r p (part_spelling k) c (byte "\\" ∷ part_spelling m) (ap (λ z. byte "\\" ∷ z) h)
   class_property_read x n r p k c (property_ends b e) h =
-      when_read _ (within (standing outer l x) (took n r p (class_property b e))) _
-      (within_read x (took n r p (class_property b e)) _ (took_read n r p (class_property b e)) _
+      when_read _ (with_class (standing outer l x) (take_atom n r p (class_property b e))) _
+      (within_read x (take_atom n r p (class_property b e)) _ (took_read n r p (class_property b e)) _
       (behind x n r p (part_spelling k) c (class_atom_spelling (class_property b e)) (ap (λ z. byte "\\" ∷ z) h)))
 
   -- behind a backslash and a character in a class, both are read too

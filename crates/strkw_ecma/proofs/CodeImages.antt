@@ -7,7 +7,7 @@ use Rattle.strkw_ecma.specs.Codes.{is_lead, is_trail, is_scalar, code_value}
 use Rattle.strkw_ecma.specs.machine.Makers.{trees, patterns, value_if, hex_with, is_next_digit}
 use Rattle.strkw_ecma.specs.machine.CodeReading.{Width, byte_width, unit_width, trail_width, Wanted, one_more, two_more, three_more, four_more, Coding}
 use Rattle.strkw_ecma.specs.machine.CodeReading.{letter_awaited, unit_opened, digits_of, lead_read, lead_escaped, point_opened, Coded, fails, goes, makes}
-use Rattle.strkw_ecma.specs.machine.CodeReading.{coded_if, made, with_lead, all_read, digit_read, digit_or_none, on_digit, on_unit, point_digit, on_point}
+use Rattle.strkw_ecma.specs.machine.CodeReading.{coded_if, make, with_lead, read_all, read_digit, digit_or_none, on_digit, on_unit, point_digit, on_point}
 use Rattle.strkw_ecma.specs.machine.CodeReading.{coding_next, value_or}
 
 -- one more digit makes a number sixteen times as great, with the digit's value added
@@ -42,7 +42,7 @@ if_image false k = refl
 if_image true k = refl
 
 -- the image of what is made of an escape is made of its value
-made_image : (d : Code) → coded_image (made d) ≡ made (code_value d)
+made_image : (d : Code) → coded_image (make d) ≡ make (code_value d)
 made_image d = if_image (is_scalar (code_value d)) (makes d)
 
 -- that of what is made of the digits behind `\u` is made of their number
@@ -51,14 +51,14 @@ lead_image ds false = made_image (unit_code ds)
 lead_image ds true = refl
 
 -- and that of what is made of all digits of a number
-all_image : (w : Width trees) (ds : List ℕ) → coded_image (all_read w ds) ≡ all_read (width_image w) (hex_number ds)
+all_image : (w : Width trees) (ds : List ℕ) → coded_image (read_all w ds) ≡ read_all (width_image w) (hex_number ds)
 all_image byte_width ds = made_image (byte_code ds)
 all_image unit_width ds = lead_image ds (is_lead (hex_number ds))
 all_image (trail_width ds) es =
-    if_image (is_trail (hex_number es)) (made (pair_code ds es)) ∙ ap (coded_if (is_trail (hex_number es))) (made_image (pair_code ds es))
+    if_image (is_trail (hex_number es)) (make (pair_code ds es)) ∙ ap (coded_if (is_trail (hex_number es))) (made_image (pair_code ds es))
 
 -- and that of what is made of digits, where more may be to come
-digit_image : (w : Width trees) (n : Wanted) (ds : List ℕ) → coded_image (digit_read w n ds) ≡ digit_read (width_image w) n (hex_number ds)
+digit_image : (w : Width trees) (n : Wanted) (ds : List ℕ) → coded_image (read_digit w n ds) ≡ read_digit (width_image w) n (hex_number ds)
 digit_image w one_more ds = all_image w ds
 digit_image w two_more ds = refl
 digit_image w three_more ds = refl
@@ -111,7 +111,7 @@ point_image (Some ds) c true = made_image (point_code ds)
 -- the image of what comes of the next character comes of it behind the image of the part
 pub next_coding_image : (k : Coding trees) (c : ℕ) → coded_image (coding_next k c) ≡ coding_next (coding_image k) c
 next_coding_image letter_awaited c =
-    if_image (is_ascii_alphabetic c) (made (letter_code c)) ∙ ap (coded_if (is_ascii_alphabetic c)) (made_image (letter_code c))
+    if_image (is_ascii_alphabetic c) (make (letter_code c)) ∙ ap (coded_if (is_ascii_alphabetic c)) (made_image (letter_code c))
 next_coding_image unit_opened c = unit_image c (c == byte "{")
 next_coding_image (digits_of w n ds) c = on_digit_image w n ds c
 next_coding_image (lead_read ds) c = if_image (c == byte "\\") (goes (lead_escaped ds))

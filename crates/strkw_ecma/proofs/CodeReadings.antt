@@ -1,5 +1,6 @@
 -- Escapes by a number: each is read from its spelling, and what is read is spelled so and gives a character.
-use Rattle.std.proofs.Common.{◌≡◌, ℕ, ◌+◌, ◌*◌, ◌≤◌, ◌==◌, Bool, true, false, List, [], ◌∷◌, ◌++◌, Option, Some, None, length, refl, sym, ap, subst, ◌∙◌, true≢false}
+use Rattle.std.proofs.Common.{◌≡◌, ℕ, ◌+◌, ◌*◌, ◌≤◌, ◌==◌, Bool, true, false, List, [], ◌∷◌, ◌++◌, Option, Some, None, length, refl, sym, ap, subst, ◌∙◌}
+use Rattle.std.proofs.Common.{true≢false}
 use Rattle.std.proofs.Common.{append_assoc, arith}
 use Rattle.std.proofs.lemmas.List.{append-nil, length_push}
 use Rattle.std.proofs.lemmas.Bool.{le-leb}
@@ -12,7 +13,8 @@ use Rattle.strkw_ecma.specs.Codes.{IsCode}
 use Rattle.strkw_ecma.specs.Names.{is_unicode}
 use Rattle.strkw_ecma.specs.machine.CodeReading.{Width, byte_width, unit_width, trail_width, Wanted, one_more, two_more, three_more, four_more, Coding}
 use Rattle.strkw_ecma.specs.machine.CodeReading.{letter_awaited, unit_opened, digits_of, lead_read, lead_escaped, point_opened, Coded, fails, goes, makes}
-use Rattle.strkw_ecma.specs.machine.CodeReading.{value_or, coded_if, made, with_lead, all_read, digit_read, digit_or_none, on_digit, on_unit, point_digit, on_point}
+use Rattle.strkw_ecma.specs.machine.CodeReading.{value_or, coded_if, make, with_lead, read_all, read_digit, digit_or_none, on_digit, on_unit, point_digit}
+use Rattle.strkw_ecma.specs.machine.CodeReading.{on_point}
 use Rattle.strkw_ecma.specs.machine.CodeReading.{coding_next}
 use Rattle.strkw_ecma.specs.Syntax.{Disjunction}
 use Rattle.strkw_ecma.proofs.Steps.{and_true, and_left, and_right}
@@ -21,7 +23,7 @@ use Rattle.strkw_ecma.specs.machine.Makers.{trees, value_if, is_next_digit}
 
 -- what holds where no digit is taken, and of what comes of one that is, holds of what comes of it under a test
 digit_when : (P : Coded trees → Type 0) (w : Width trees) (n : Wanted) (ds : List ℕ) (b : Bool) → P fails
-    → (b ≡ true → P (digit_read w n ds)) → P (digit_or_none w n (value_if b ds))
+    → (b ≡ true → P (read_digit w n ds)) → P (digit_or_none w n (value_if b ds))
 digit_when P w n ds false f h = f
 digit_when P w n ds true f h = h refl
 
@@ -58,7 +60,7 @@ if_as false k t h = tt
 if_as true k t h = h refl
 
 -- what is made of a whole escape is spelled as the escape
-made_as : (d : Code) (t : List ℕ) → code_spelling d ≡ t → IsCodedAs (made d) t
+made_as : (d : Code) (t : List ℕ) → code_spelling d ≡ t → IsCodedAs (make d) t
 made_as d t h = if_as (is_scalar (code_value d)) (makes d) t (λ _. h)
 
 -- what is made of the digits behind `\u`, of a leading surrogate or not, is spelled as they are
@@ -67,13 +69,13 @@ lead_as ds false t h = made_as (unit_code ds) t h
 lead_as ds true t h = h
 
 -- what is made of all digits of a number is spelled as they are
-all_read_as : (w : Width trees) (ds t : List ℕ) → width_spelling w ds ≡ t → IsCodedAs (all_read w ds) t
+all_read_as : (w : Width trees) (ds t : List ℕ) → width_spelling w ds ≡ t → IsCodedAs (read_all w ds) t
 all_read_as byte_width ds t h = made_as (byte_code ds) t h
 all_read_as unit_width ds t h = lead_as ds (is_lead (hex_number ds)) t h
-all_read_as (trail_width ds) es t h = if_as (is_trail (hex_number es)) (made (pair_code ds es)) t (λ _. made_as (pair_code ds es) t h)
+all_read_as (trail_width ds) es t h = if_as (is_trail (hex_number es)) (make (pair_code ds es)) t (λ _. made_as (pair_code ds es) t h)
 
 -- and so is what is made of digits, where more may be to come
-digit_read_as : (w : Width trees) (n : Wanted) (ds t : List ℕ) → width_spelling w ds ≡ t → IsCodedAs (digit_read w n ds) t
+digit_read_as : (w : Width trees) (n : Wanted) (ds t : List ℕ) → width_spelling w ds ≡ t → IsCodedAs (read_digit w n ds) t
 digit_read_as w one_more ds t h = all_read_as w ds t h
 digit_read_as w two_more ds t h = h
 digit_read_as w three_more ds t h = h
@@ -108,7 +110,7 @@ point_as (Some ds) c true e =
 
 -- so what comes of the next character of an escape by a number is spelled with it
 pub coding_as : (k : Coding trees) (c : ℕ) → IsCodedAs (coding_next k c) (coding_spelling k ++ c ∷ [])
-coding_as letter_awaited c = if_as (is_ascii_alphabetic c) (made (letter_code c)) _ (λ _. made_as (letter_code c) _ refl)
+coding_as letter_awaited c = if_as (is_ascii_alphabetic c) (make (letter_code c)) _ (λ _. made_as (letter_code c) _ refl)
 coding_as unit_opened c = unit_as c (c == byte "{") refl
 coding_as (digits_of w n ds) c = on_digit_as w n ds c
 coding_as (lead_read ds) c =
@@ -169,7 +171,7 @@ if_formed false k h = tt
 if_formed true k h = h refl
 
 -- what is made of an escape with the digits of one is such
-made_formed : (d : Code) → AreCodeDigits d → IsCoded (made d)
+made_formed : (d : Code) → AreCodeDigits d → IsCoded (make d)
 made_formed d h = if_formed (is_scalar (code_value d)) (makes d) (λ e. (h, e))
 
 -- and what is made of four digits behind `\u`, of a leading surrogate or not
@@ -178,15 +180,15 @@ lead_formed ds false e h = made_formed (unit_code ds) h
 lead_formed ds true e h = (h, e)
 
 -- and what is made of all digits of a number
-all_read_formed : (w : Width trees) (ds : List ℕ) → IsWidth w → AreDigits (width_count w) ds → IsCoded (all_read w ds)
+all_read_formed : (w : Width trees) (ds : List ℕ) → IsWidth w → AreDigits (width_count w) ds → IsCoded (read_all w ds)
 all_read_formed byte_width ds v h = made_formed (byte_code ds) h
 all_read_formed unit_width ds v h = lead_formed ds _ refl h
 all_read_formed (trail_width ds) es v h =
-    if_formed (is_trail (hex_number es)) (made (pair_code ds es)) (λ e. made_formed (pair_code ds es) (v, h, e))
+    if_formed (is_trail (hex_number es)) (make (pair_code ds es)) (λ e. made_formed (pair_code ds es) (v, h, e))
 
 -- and what is made of digits with one more, as many of them as there may be
 digit_read_formed : (w : Width trees) (n : Wanted) (ds : List ℕ) → IsWidth w → are_hex_digits ds ≡ true
-    → length ds + wanted_count n ≡ width_count w + 1 → IsCoded (digit_read w n ds)
+    → length ds + wanted_count n ≡ width_count w + 1 → IsCoded (read_digit w n ds)
 digit_read_formed w one_more ds v h e = all_read_formed w ds v (h, omega (arith, e))
 digit_read_formed w two_more ds v h e = (v, h, omega (arith, e))
 digit_read_formed w three_more ds v h e = (v, h, omega (arith, e))
@@ -230,7 +232,7 @@ point_formed (Some ds) c true h = made_formed (point_code ds) h
 
 -- so what comes of a character behind a part that may have been read is such a part, or an escape
 pub coding_formed : (k : Coding trees) (c : ℕ) → IsCoding k → IsCoded (coding_next k c)
-coding_formed letter_awaited c h = if_formed (is_ascii_alphabetic c) (made (letter_code c)) (λ e. made_formed (letter_code c) e)
+coding_formed letter_awaited c h = if_formed (is_ascii_alphabetic c) (make (letter_code c)) (λ e. made_formed (letter_code c) e)
 coding_formed unit_opened c h = unit_formed c (c == byte "{")
 coding_formed (digits_of w n ds) c h = on_digit_formed w n ds c h.0 h.1 h.2
 coding_formed (lead_read ds) c h = if_formed (c == byte "\\") (goes (lead_escaped ds)) (λ e. h)
@@ -270,15 +272,15 @@ lead_unicode ds false = if_unicode (is_scalar (code_value (unit_code ds))) (make
 lead_unicode ds true = refl
 
 -- and what is made of all digits of a number with `\u`
-all_read_unicode : (w : Width trees) (ds : List ℕ) → is_unicode_width w ≡ true → IsUnicode (all_read w ds)
+all_read_unicode : (w : Width trees) (ds : List ℕ) → is_unicode_width w ≡ true → IsUnicode (read_all w ds)
 all_read_unicode byte_width ds h = absurd (true≢false (sym h))
 all_read_unicode unit_width ds h = lead_unicode ds (is_lead (hex_number ds))
 all_read_unicode (trail_width ds) es h =
-    if_unicode (is_trail (hex_number es)) (made (pair_code ds es))
+    if_unicode (is_trail (hex_number es)) (make (pair_code ds es))
     (if_unicode (is_scalar (code_value (pair_code ds es))) (makes (pair_code ds es)) refl)
 
 -- and what is made of its digits, where more may be to come
-digit_read_unicode : (w : Width trees) (n : Wanted) (ds : List ℕ) → is_unicode_width w ≡ true → IsUnicode (digit_read w n ds)
+digit_read_unicode : (w : Width trees) (n : Wanted) (ds : List ℕ) → is_unicode_width w ≡ true → IsUnicode (read_digit w n ds)
 digit_read_unicode w one_more ds h = all_read_unicode w ds h
 digit_read_unicode w two_more ds h = h
 digit_read_unicode w three_more ds h = h
@@ -386,12 +388,12 @@ no_digits four_more e = omega (arith, e)
 
 module _ (F : Behind (Coding trees)) (G : Behind Code) (turn : (k : Coding trees) (c : ℕ) (cs : List ℕ) → F k (c ∷ cs) ≡ follow F G (coding_next k c) cs) where
   -- an escape whose character a text can have is read as a whole one
-  made_follows : (d : Code) → is_scalar (code_value d) ≡ true → (cs : List ℕ) → follow F G (made d) cs ≡ G d cs
+  made_follows : (d : Code) → is_scalar (code_value d) ≡ true → (cs : List ℕ) → follow F G (make d) cs ≡ G d cs
   made_follows d h cs = ap (λ (b : Bool). follow F G (coded_if b (makes d)) cs) h
 
   -- a digit that makes no number above the greatest is read, and added to those before
   one_digit : (w : Width trees) (n : Wanted) (ds : List ℕ) (d : ℕ) (cs : List ℕ) → is_hex_digit d ≡ true → hex_number (ds ++ d ∷ []) ≤ max_code_point
-      → F (digits_of w n ds) (d ∷ cs) ≡ follow F G (digit_read w n (ds ++ d ∷ [])) cs
+      → F (digits_of w n ds) (d ∷ cs) ≡ follow F G (read_digit w n (ds ++ d ∷ [])) cs
   one_digit w n ds d cs h m =
       turn (digits_of w n ds) d cs
       ∙ ap (λ (b : Bool). follow F G (digit_or_none w n (value_if b (ds ++ d ∷ []))) cs)
@@ -403,15 +405,15 @@ module _ (F : Behind (Coding trees)) (G : Behind Code) (turn : (k : Coding trees
 
   -- where the digits behind one are read to the last, they are with that one in front
   joins : (w : Width trees) (n : Wanted) (ds : List ℕ) (d : ℕ) (es cs : List ℕ) → is_hex_digit d ≡ true → hex_number (ds ++ d ∷ es) ≤ max_code_point
-      → follow F G (digit_read w n (ds ++ d ∷ [])) (es ++ cs) ≡ follow F G (all_read w ((ds ++ d ∷ []) ++ es)) cs
-      → F (digits_of w n ds) (d ∷ (es ++ cs)) ≡ follow F G (all_read w (ds ++ d ∷ es)) cs
+      → follow F G (read_digit w n (ds ++ d ∷ [])) (es ++ cs) ≡ follow F G (read_all w ((ds ++ d ∷ []) ++ es)) cs
+      → F (digits_of w n ds) (d ∷ (es ++ cs)) ≡ follow F G (read_all w (ds ++ d ∷ es)) cs
   joins w n ds d es cs h m rest =
       one_digit w n ds d (es ++ cs) h (front_small (ds ++ d ∷ []) es (shifted ds d es m)) ∙ rest
-      ∙ ap (λ (z : List ℕ). follow F G (all_read w z) cs) (append_assoc ds (d ∷ []) es)
+      ∙ ap (λ (z : List ℕ). follow F G (read_all w z) cs) (append_assoc ds (d ∷ []) es)
 
   -- digits are read to the last, where there are as many as are to come
   reads_digits : (w : Width trees) (n : Wanted) (ds es : List ℕ) → are_hex_digits es ≡ true → length es ≡ wanted_count n
-      → hex_number (ds ++ es) ≤ max_code_point → (cs : List ℕ) → F (digits_of w n ds) (es ++ cs) ≡ follow F G (all_read w (ds ++ es)) cs
+      → hex_number (ds ++ es) ≤ max_code_point → (cs : List ℕ) → F (digits_of w n ds) (es ++ cs) ≡ follow F G (read_all w (ds ++ es)) cs
   reads_digits w n ds [] h e m cs = absurd (no_digits n e)
   reads_digits w one_more ds (d ∷ []) h e m cs = one_digit w one_more ds d cs (and_left (is_hex_digit d) _ h) m
   reads_digits w one_more ds (d ∷ f ∷ fs) h e m cs = absurd (omega (arith, e))
@@ -472,7 +474,7 @@ module _ (F : Behind (Coding trees)) (G : Behind Code) (turn : (k : Coding trees
   pub reads_code : (d : Code) → IsCode d → (cs : List ℕ) → begun F G d (code_tail d ++ cs) ≡ G d cs
   reads_code null_code h cs = refl
   reads_code (letter_code c) h cs =
-      turn letter_awaited c cs ∙ ap (λ (b : Bool). follow F G (coded_if b (made (letter_code c))) cs) h.0 ∙ made_follows (letter_code c) h.1 cs
+      turn letter_awaited c cs ∙ ap (λ (b : Bool). follow F G (coded_if b (make (letter_code c))) cs) h.0 ∙ made_follows (letter_code c) h.1 cs
   reads_code (byte_code ds) h cs =
       reads_digits byte_width two_more [] ds h.0.0 h.0.1 (scalar_small (hex_number ds) h.1) cs ∙ made_follows (byte_code ds) h.1 cs
   reads_code (unit_code ds) h cs =
@@ -484,7 +486,7 @@ module _ (F : Behind (Coding trees)) (G : Behind Code) (turn : (k : Coding trees
       ∙ reads_unit ds h.0.0.0 (lead_small (hex_number ds) h.0.0.1) true h.0.0.1 rest
       ∙ turn (lead_read ds) (byte "\\") (byte "u" ∷ (es ++ cs)) ∙ turn (lead_escaped ds) (byte "u") (es ++ cs)
       ∙ reads_digits (trail_width ds) four_more [] es h.0.1.0 h.0.1.1 (trail_small (hex_number es) h.0.2) cs
-      ∙ ap (λ (b : Bool). follow F G (coded_if b (made (pair_code ds es))) cs) h.0.2 ∙ made_follows (pair_code ds es) h.1 cs
+      ∙ ap (λ (b : Bool). follow F G (coded_if b (make (pair_code ds es))) cs) h.0.2 ∙ made_follows (pair_code ds es) h.1 cs
   reads_code (point_code ds) h cs =
       turn unit_opened (byte "{") ((ds ++ byte "}" ∷ []) ++ cs) ∙ ap (F (point_opened None)) (append_assoc ds (byte "}" ∷ []) cs)
       ∙ reads_point ds h.0 (scalar_small (hex_number ds) h.1) (byte "}" ∷ cs) ∙ turn (point_opened (Some ds)) (byte "}") cs

@@ -4,10 +4,10 @@ use Rattle.std.proofs.lemmas.Result.{IfOk-weaker}
 use Rattle.std.specs.Vec.{vec_len}
 use Rattle.std.specs.declared.alloc.Global.{Global}
 use Rattle.strkw_ecma.specs.Tree.{Pattern, empty, alt}
-use Rattle.strkw_ecma.specs.Patterns.{repeated}
-use Rattle.strkw_ecma.specs.Program.{Instruction, fork, other, join, is_empty, program, alternatives, copied}
-use Rattle.strkw_ecma.specs.machine.Machine.{written, Writes}
-use Rattle.strkw_ecma.specs.machine.Shape.{outlined, outlined_node}
+use Rattle.strkw_ecma.specs.Patterns.{repetition}
+use Rattle.strkw_ecma.specs.Program.{Instruction, fork, other, join, is_empty, program, alternatives, concat_copies}
+use Rattle.strkw_ecma.specs.machine.Machine.{instructions_of, Writes}
+use Rattle.strkw_ecma.specs.machine.Shape.{outline_pattern, outline_node}
 use Rattle.strkw_ecma.specs.declared.code.Code.{Code}
 use Rattle.strkw_ecma.specs.declared.outline.Quantifier.{Quantifier}
 use Rattle.strkw_ecma.specs.declared.outline.Outline.{Outline}
@@ -19,7 +19,7 @@ use Rattle.strkw_ecma.proofs.Programs.{by_option}
 use Rattle.strkw_ecma.proofs.Written.{repeats_written}
 
 -- it stands among alternatives as it stands alone
-pub repeated_beside : (n : ℕ) (p : Pattern) → alternatives (repeated n p) ≡ program (repeated n p)
+pub repeated_beside : (n : ℕ) (p : Pattern) → alternatives (repetition n p) ≡ program (repetition n p)
 repeated_beside zero p = refl
 repeated_beside (suc n) p = refl
 
@@ -29,37 +29,37 @@ IsAlone p = alternatives p ≡ program p
 
 -- one node does that is neither a choice nor repeated
 node_alone : (x : Outline-F Outline) → ((a b : Box Outline Global) → roll-Outline x ≡ Or a b → ⊥)
-    → ((q : Quantifier) (b : Box Outline Global) → roll-Outline x ≡ Repeated q b → ⊥) → IsAlone (outlined (roll-Outline x))
-node_alone Outline-F.Empty no_choice not_repeated = subst IsAlone (sym (fold-roll-Outline Pattern outlined_node Outline-F.Empty)) refl
-node_alone (Outline-F.Class n s) no_choice not_repeated = subst IsAlone (sym (fold-roll-Outline Pattern outlined_node (Outline-F.Class n s))) refl
-node_alone Outline-F.Start no_choice not_repeated = subst IsAlone (sym (fold-roll-Outline Pattern outlined_node Outline-F.Start)) refl
-node_alone Outline-F.End no_choice not_repeated = subst IsAlone (sym (fold-roll-Outline Pattern outlined_node Outline-F.End)) refl
-node_alone Outline-F.Boundary no_choice not_repeated = subst IsAlone (sym (fold-roll-Outline Pattern outlined_node Outline-F.Boundary)) refl
-node_alone Outline-F.NoBoundary no_choice not_repeated = subst IsAlone (sym (fold-roll-Outline Pattern outlined_node Outline-F.NoBoundary)) refl
-node_alone (Outline-F.Then a b) no_choice not_repeated = subst IsAlone (sym (fold-roll-Outline Pattern outlined_node (Outline-F.Then a b))) refl
+    → ((q : Quantifier) (b : Box Outline Global) → roll-Outline x ≡ Repeated q b → ⊥) → IsAlone (outline_pattern (roll-Outline x))
+node_alone Outline-F.Empty no_choice not_repeated = subst IsAlone (sym (fold-roll-Outline Pattern outline_node Outline-F.Empty)) refl
+node_alone (Outline-F.Class n s) no_choice not_repeated = subst IsAlone (sym (fold-roll-Outline Pattern outline_node (Outline-F.Class n s))) refl
+node_alone Outline-F.Start no_choice not_repeated = subst IsAlone (sym (fold-roll-Outline Pattern outline_node Outline-F.Start)) refl
+node_alone Outline-F.End no_choice not_repeated = subst IsAlone (sym (fold-roll-Outline Pattern outline_node Outline-F.End)) refl
+node_alone Outline-F.Boundary no_choice not_repeated = subst IsAlone (sym (fold-roll-Outline Pattern outline_node Outline-F.Boundary)) refl
+node_alone Outline-F.NoBoundary no_choice not_repeated = subst IsAlone (sym (fold-roll-Outline Pattern outline_node Outline-F.NoBoundary)) refl
+node_alone (Outline-F.Then a b) no_choice not_repeated = subst IsAlone (sym (fold-roll-Outline Pattern outline_node (Outline-F.Then a b))) refl
 node_alone (Outline-F.Or a b) no_choice not_repeated = absurd (no_choice a b (rolls-Or a b))
 node_alone (Outline-F.Repeated q b) no_choice not_repeated = absurd (not_repeated q b (rolls-Repeated q b))
-node_alone (Outline-F.Behind n b) no_choice not_repeated = subst IsAlone (sym (fold-roll-Outline Pattern outlined_node (Outline-F.Behind n b))) refl
-node_alone (Outline-F.Ahead n b) no_choice not_repeated = subst IsAlone (sym (fold-roll-Outline Pattern outlined_node (Outline-F.Ahead n b))) refl
+node_alone (Outline-F.Behind n b) no_choice not_repeated = subst IsAlone (sym (fold-roll-Outline Pattern outline_node (Outline-F.Behind n b))) refl
+node_alone (Outline-F.Ahead n b) no_choice not_repeated = subst IsAlone (sym (fold-roll-Outline Pattern outline_node (Outline-F.Ahead n b))) refl
 
 -- an outline does that is neither a choice nor repeated
 pub alone_beside : (o : Outline) → ((a b : Box Outline Global) → o ≡ Or a b → ⊥) → ((q : Quantifier) (b : Box Outline Global) → o ≡ Repeated q b → ⊥)
-    → IsAlone (outlined o)
+    → IsAlone (outline_pattern o)
 alone_beside =
     ind-Outline
-    (λ o. ((a b : Box Outline Global) → o ≡ Or a b → ⊥) → ((q : Quantifier) (b : Box Outline Global) → o ≡ Repeated q b → ⊥) → IsAlone (outlined o))
+    (λ o. ((a b : Box Outline Global) → o ≡ Or a b → ⊥) → ((q : Quantifier) (b : Box Outline Global) → o ≡ Repeated q b → ⊥) → IsAlone (outline_pattern o))
     (λ x y is. node_alone x)
 
 -- the program of what is repeated is so many copies of its program
-pub program_repeated : (n : ℕ) (p : Pattern) → program (repeated n p) ≡ copied n (program p)
+pub program_repeated : (n : ℕ) (p : Pattern) → program (repetition n p) ≡ concat_copies n (program p)
 program_repeated zero p = refl
 program_repeated (suc n) p = ap (λ (is : List Instruction). program p ++ is) (program_repeated n p)
 
 -- what a call says that copies what was written first
 pub repeats_program : {A E : Type 0} (r : Result A E) (p : Pattern) (old mid new : Code) (from count : ℕ)
     → from ≡ vec_len old.instructions → (count ≡ 0 → ⊥)
-    → Writes old mid (program p) → IfOk r (λ _. Writes mid new (copied (count - 1) (drop from (written mid))))
-    → IfOk r (λ _. Writes old new (program (repeated count p)))
+    → Writes old mid (program p) → IfOk r (λ _. Writes mid new (concat_copies (count - 1) (drop from (instructions_of mid))))
+    → IfOk r (λ _. Writes old new (program (repetition count p)))
 repeats_program r p old mid new from count begins some one more =
     rw program_repeated
     (IfOk-weaker r _ _ (λ _. repeats_written old mid new _ from count (begins ∙ old.instructions.ok.0) some one) more)

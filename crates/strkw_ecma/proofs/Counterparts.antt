@@ -3,15 +3,15 @@ use Rattle.std.proofs.Common.{◌≡◌, ℕ, zero, suc, ◌-◌, ◌+◌, Bool,
 use Rattle.std.proofs.Common.{subst₂, Result, Ok, Err, IfOk, Box, Global, ⊎_elim, true≢false, arith}
 use Rattle.strkw_ecma.specs.Tree.{Pattern, empty, class, look, cat, alt, star, plus, lookbehind, lookahead}
 use Rattle.strkw_ecma.specs.Meaning.{Rounds, no_round, a_round, Matches}
-use Rattle.strkw_ecma.specs.Patterns.{Times, any_times, some_times, once_at_most, exact_times, least_times, range_times, repeated, quantified_pattern}
+use Rattle.strkw_ecma.specs.Patterns.{Times, any_times, some_times, once_at_most, exact_times, least_times, range_times, repetition, quantified_pattern}
 use Rattle.strkw_ecma.specs.Program.{is_class, is_empty, alternatives}
 use Rattle.strkw_ecma.specs.Glances.{is_glance, are_told}
 use Rattle.strkw_ecma.specs.Size.{steps_of, steps, spread}
 use Rattle.strkw_ecma.specs.Mirror.{mirror}
-use Rattle.strkw_ecma.specs.machine.Marks.{unmarked}
+use Rattle.strkw_ecma.specs.machine.Marks.{is_unmarked}
 use Rattle.strkw_ecma.specs.machine.Passes.{Alike}
 use Rattle.std.specs.declared.alloc.AllocError.{AllocError}
-use Rattle.strkw_ecma.specs.machine.Shape.{outlined, quantifier_of}
+use Rattle.strkw_ecma.specs.machine.Shape.{outline_pattern, quantifier_of}
 use Rattle.strkw_ecma.specs.declared.outline.Quantifier.{Quantifier}
 use Rattle.strkw_ecma.specs.declared.outline.Outline.{Outline}
 use Rattle.strkw_ecma.specs.declared.outline.Outline.TheVariants.{Then, Or, Repeated, Behind, Ahead}
@@ -264,7 +264,7 @@ alike_ahead n p r u = record {
 }
 
 -- what is repeated
-alike_repeated : (n : ℕ) (p r : Pattern) → Alike p r → Alike (repeated n p) (repeated n r)
+alike_repeated : (n : ℕ) (p r : Pattern) → Alike p r → Alike (repetition n p) (repetition n r)
 alike_repeated zero p r u = alike_refl empty
 alike_repeated (suc n) p r u = alike_cat _ _ _ _ u (alike_repeated n p r u)
 
@@ -285,7 +285,7 @@ module _ (text : List ℕ) where
   Swaps q r = (i j : ℕ) → ((m : ℕ) × Matches text q i m × Matches text r m j) → (m : ℕ) × Matches text r i m × Matches text q m j
 
   -- a pattern and copies of another
-  swaps_copies : (q r : Pattern) → Swaps q r → (n : ℕ) → Swaps q (repeated n r)
+  swaps_copies : (q r : Pattern) → Swaps q r → (n : ℕ) → Swaps q (repetition n r)
   swaps_copies q r f zero i j (m, a, e) = (i, refl, subst (λ (z : ℕ). Matches text q i z) e a)
   swaps_copies q r f (suc n) i j (m, a, (x, b, c)) =
       let one = f i x (m, a, b) in
@@ -293,7 +293,7 @@ module _ (text : List ℕ) where
       (more.0, (one.0, one.1, more.1), more.2)
 
   -- copies of a pattern and another
-  copies_swap : (r q : Pattern) → Swaps r q → (n : ℕ) → Swaps (repeated n r) q
+  copies_swap : (r q : Pattern) → Swaps r q → (n : ℕ) → Swaps (repetition n r) q
   copies_swap r q f zero i j (m, e, a) = (j, subst (λ (z : ℕ). Matches text q z j) (sym e) a, refl)
   copies_swap r q f (suc n) i j (m, (x, b, c), a) =
       let more = copies_swap r q f n x j (m, c, a) in
@@ -423,7 +423,7 @@ swapped q r some other swap =
       class = refl;
       sees = ap (λ (b : Bool). b && is_glance r) some ∙ sym (ap (λ (b : Bool). b && is_glance q) other);
       told = and_turned (are_told q) (are_told r);
-      clean = and_turned (unmarked q) (unmarked r);
+      clean = and_turned (is_unmarked q) (is_unmarked r);
       steps = λ t. same;
       beside = λ t. same;
       glance_steps = λ g. absurd (true≢false (sym (and_left (is_empty r) _ g) ∙ other));
@@ -441,10 +441,10 @@ in_order p q r s false false e g u w swap =
     alike_trans _ _ _ (swapped r s (u.nothing ∙ mirror_nothing p ∙ e) (w.nothing ∙ mirror_nothing q ∙ g) swap) (alike_cat _ _ _ _ w u)
 
 -- copies of a mirror are like the mirror of copies
-repeated_mirror : (n : ℕ) (p : Pattern) → Alike (repeated n (mirror p)) (mirror (repeated n p))
+repeated_mirror : (n : ℕ) (p : Pattern) → Alike (repetition n (mirror p)) (mirror (repetition n p))
 repeated_mirror zero p = alike_refl empty
 repeated_mirror (suc n) p =
-    in_order p (repeated n p) (mirror p) (repeated n (mirror p)) _ _ refl refl (alike_refl (mirror p)) (repeated_mirror n p)
+    in_order p (repetition n p) (mirror p) (repetition n (mirror p)) _ _ refl refl (alike_refl (mirror p)) (repeated_mirror n p)
     (λ text. (
       swaps_copies text (mirror p) (mirror p) (λ i j m. m) n,
       copies_swap text (mirror p) (mirror p) (λ i j m. m) n,
@@ -457,18 +457,18 @@ times_mirror some_times p = alike_refl _
 times_mirror once_at_most p = alike_refl _
 times_mirror (exact_times n) p = repeated_mirror n p
 times_mirror (least_times n) p =
-    in_order (repeated n p) (star p) (repeated n (mirror p)) (star (mirror p)) _ _ refl refl (repeated_mirror n p) (alike_refl _)
+    in_order (repetition n p) (star p) (repetition n (mirror p)) (star (mirror p)) _ _ refl refl (repeated_mirror n p) (alike_refl _)
     (λ text. (
       copies_swap text (mirror p) (star (mirror p)) (swaps_star text (mirror p)) n,
       swaps_copies text (star (mirror p)) (mirror p) (star_swaps text (mirror p)) n,
     ))
 times_mirror (range_times n m) p =
     let q = mirror p in
-    in_order (repeated n p) (repeated (m - n) (alt empty p)) (repeated n q) (repeated (m - n) (alt empty q)) _ _ refl refl
+    in_order (repetition n p) (repetition (m - n) (alt empty p)) (repetition n q) (repetition (m - n) (alt empty q)) _ _ refl refl
     (repeated_mirror n p) (repeated_mirror (m - n) (alt empty p))
     (λ text. (
-      copies_swap text q (repeated (m - n) (alt empty q)) (swaps_copies text q (alt empty q) (swaps_option text q) (m - n)) n,
-      swaps_copies text (repeated (m - n) (alt empty q)) q (copies_swap text (alt empty q) q (option_swaps text q) (m - n)) n,
+      copies_swap text q (repetition (m - n) (alt empty q)) (swaps_copies text q (alt empty q) (swaps_option text q) (m - n)) n,
+      swaps_copies text (repetition (m - n) (alt empty q)) q (copies_swap text (alt empty q) q (option_swaps text q) (m - n)) n,
     ))
 
 -- what is like the mirror of a pattern is, repeated, like the mirror of that repeated
@@ -495,45 +495,46 @@ ok_weaker (Err e) P Q f p = tt
 module _ (s : Outline) (r : Result Outline AllocError) where
   -- of two, one behind the other
   pub then_made : (first second : Box Outline Global) (f g a b : Outline) (x y : Bool) → s ≡ Then first second → f ≡ first.value → g ≡ second.value
-      → x ≡ is_empty (outlined first.value) → y ≡ is_empty (outlined second.value)
-      → Alike (outlined a) (mirror (outlined f)) → Alike (outlined b) (mirror (outlined g))
-      → IfOk r (λ t. outlined t ≡ (if x || y then cat (outlined a) (outlined b) else cat (outlined b) (outlined a)))
-      → IfOk r (λ t. Alike (outlined t) (mirror (outlined s)))
+      → x ≡ is_empty (outline_pattern first.value) → y ≡ is_empty (outline_pattern second.value)
+      → Alike (outline_pattern a) (mirror (outline_pattern f)) → Alike (outline_pattern b) (mirror (outline_pattern g))
+      → IfOk r (λ t. outline_pattern t ≡ (if x || y then cat (outline_pattern a) (outline_pattern b) else cat (outline_pattern b) (outline_pattern a)))
+      → IfOk r (λ t. Alike (outline_pattern t) (mirror (outline_pattern s)))
   then_made first second f g a b x y is f_is g_is x_is y_is u w =
       ok_weaker r _ _ (λ t e. subst₂ Alike (sym e)
-      (sym (ap mirror (ap outlined is ∙ outlined-Then first second)))
-      (cat_mirror (outlined first.value) (outlined second.value) (outlined a) (outlined b) (x || y)
-      (ap (λ (b : Bool). b || is_empty (outlined second.value)) (sym x_is) ∙ ap (λ (b : Bool). x || b) (sym y_is))
-      (subst (λ (o : Outline). Alike (outlined a) (mirror (outlined o))) f_is u)
-      (subst (λ (o : Outline). Alike (outlined b) (mirror (outlined o))) g_is w)))
+      (sym (ap mirror (ap outline_pattern is ∙ outlined-Then first second)))
+      (cat_mirror (outline_pattern first.value) (outline_pattern second.value) (outline_pattern a) (outline_pattern b) (x || y)
+      (ap (λ (b : Bool). b || is_empty (outline_pattern second.value)) (sym x_is) ∙ ap (λ (b : Bool). x || b) (sym y_is))
+      (subst (λ (o : Outline). Alike (outline_pattern a) (mirror (outline_pattern o))) f_is u)
+      (subst (λ (o : Outline). Alike (outline_pattern b) (mirror (outline_pattern o))) g_is w)))
 
   -- of alternatives
   pub or_made : (one other : Box Outline Global) (f g a b : Outline) → s ≡ Or one other → f ≡ one.value → g ≡ other.value
-      → Alike (outlined a) (mirror (outlined f)) → Alike (outlined b) (mirror (outlined g))
-      → IfOk r (λ t. outlined t ≡ alt (outlined a) (outlined b)) → IfOk r (λ t. Alike (outlined t) (mirror (outlined s)))
+      → Alike (outline_pattern a) (mirror (outline_pattern f)) → Alike (outline_pattern b) (mirror (outline_pattern g))
+      → IfOk r (λ t. outline_pattern t ≡ alt (outline_pattern a) (outline_pattern b)) → IfOk r (λ t. Alike (outline_pattern t) (mirror (outline_pattern s)))
   or_made one other f g a b is f_is g_is u w =
       ok_weaker r _ _ (λ t e. subst₂ Alike (sym e)
-      (sym (ap mirror (ap outlined is ∙ outlined-Or one other)))
-      (alike_alt _ _ _ _ (subst (λ (o : Outline). Alike (outlined a) (mirror (outlined o))) f_is u)
-      (subst (λ (o : Outline). Alike (outlined b) (mirror (outlined o))) g_is w)))
+      (sym (ap mirror (ap outline_pattern is ∙ outlined-Or one other)))
+      (alike_alt _ _ _ _ (subst (λ (o : Outline). Alike (outline_pattern a) (mirror (outline_pattern o))) f_is u)
+      (subst (λ (o : Outline). Alike (outline_pattern b) (mirror (outline_pattern o))) g_is w)))
 
   -- of one with a body
-  module _ (body : Box Outline Global) (f a : Outline) (f_is : f ≡ body.value) (u : Alike (outlined a) (mirror (outlined f))) where
-    of_body : Alike (outlined a) (mirror (outlined body.value))
-    of_body = subst (λ (o : Outline). Alike (outlined a) (mirror (outlined o))) f_is u
+  module _ (body : Box Outline Global) (f a : Outline) (f_is : f ≡ body.value) (u : Alike (outline_pattern a) (mirror (outline_pattern f))) where
+    of_body : Alike (outline_pattern a) (mirror (outline_pattern body.value))
+    of_body = subst (λ (o : Outline). Alike (outline_pattern a) (mirror (outline_pattern o))) f_is u
 
     pub repeated_made : (q : Quantifier) → s ≡ Repeated q body
-        → IfOk r (λ t. outlined t ≡ quantified_pattern (quantifier_of q) (outlined a)) → IfOk r (λ t. Alike (outlined t) (mirror (outlined s)))
+        → IfOk r (λ t. outline_pattern t ≡ quantified_pattern (quantifier_of q) (outline_pattern a))
+        → IfOk r (λ t. Alike (outline_pattern t) (mirror (outline_pattern s)))
     repeated_made q is =
-        ok_weaker r _ _ (λ t e. subst₂ Alike (sym e) (sym (ap mirror (ap outlined is ∙ outlined-Repeated q body)))
-        (counted_mirror (quantifier_of q) (outlined body.value) (outlined a) of_body))
+        ok_weaker r _ _ (λ t e. subst₂ Alike (sym e) (sym (ap mirror (ap outline_pattern is ∙ outlined-Repeated q body)))
+        (counted_mirror (quantifier_of q) (outline_pattern body.value) (outline_pattern a) of_body))
 
-    pub behind_made : (n : Bool) → s ≡ Behind n body → IfOk r (λ t. outlined t ≡ lookahead n (outlined a))
-        → IfOk r (λ t. Alike (outlined t) (mirror (outlined s)))
+    pub behind_made : (n : Bool) → s ≡ Behind n body → IfOk r (λ t. outline_pattern t ≡ lookahead n (outline_pattern a))
+        → IfOk r (λ t. Alike (outline_pattern t) (mirror (outline_pattern s)))
     behind_made n is =
-        ok_weaker r _ _ (λ t e. subst₂ Alike (sym e) (sym (ap mirror (ap outlined is ∙ outlined-Behind n body))) (alike_ahead n _ _ of_body))
+        ok_weaker r _ _ (λ t e. subst₂ Alike (sym e) (sym (ap mirror (ap outline_pattern is ∙ outlined-Behind n body))) (alike_ahead n _ _ of_body))
 
-    pub ahead_made : (n : Bool) → s ≡ Ahead n body → IfOk r (λ t. outlined t ≡ lookbehind n (outlined a))
-        → IfOk r (λ t. Alike (outlined t) (mirror (outlined s)))
+    pub ahead_made : (n : Bool) → s ≡ Ahead n body → IfOk r (λ t. outline_pattern t ≡ lookbehind n (outline_pattern a))
+        → IfOk r (λ t. Alike (outline_pattern t) (mirror (outline_pattern s)))
     ahead_made n is =
-        ok_weaker r _ _ (λ t e. subst₂ Alike (sym e) (sym (ap mirror (ap outlined is ∙ outlined-Ahead n body))) (alike_behind n _ _ of_body))
+        ok_weaker r _ _ (λ t e. subst₂ Alike (sym e) (sym (ap mirror (ap outline_pattern is ∙ outlined-Ahead n body))) (alike_behind n _ _ of_body))

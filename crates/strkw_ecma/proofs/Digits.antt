@@ -1,11 +1,13 @@
 -- Digits and the numbers that they stand for.
-use Rattle.std.proofs.Common.{◌≡◌, ℕ, ◌+◌, ◌*◌, ◌-◌, ◌≤◌, ◌==◌, Bool, true, false, List, [], ◌∷◌, ◌++◌, Option, Some, None, if◌then◌else◌, refl, sym, ap, subst, ◌∙◌, true≢false}
+use Rattle.std.proofs.Common.{◌≡◌, ℕ, ◌+◌, ◌*◌, ◌-◌, ◌≤◌, ◌==◌, Bool, true, false, List, [], ◌∷◌, ◌++◌, Option, Some, None, if◌then◌else◌, refl, sym, ap, subst}
+use Rattle.std.proofs.Common.{◌∙◌, true≢false}
 use Rattle.std.proofs.Common.{append_assoc, arith}
 use Rattle.std.specs.Prelude.{option_and_then, option_map}
 use Rattle.std.proofs.lemmas.List.{append-nil}
 use Rattle.std.proofs.lemmas.Bool.{le-leb}
 use Rattle.std.specs.Str.{byte}
-use Rattle.strkw_ecma.specs.Numbers.{IsNumber, is_digit, are_digits, number_from, number, max_count, CountToken, digit, comma, closing_brace, no_count, count_token}
+use Rattle.strkw_ecma.specs.Numbers.{IsNumber, is_digit, are_digits, number_from, number, max_count, CountToken, digit, comma, closing_brace, no_count}
+use Rattle.strkw_ecma.specs.Numbers.{count_token}
 use Rattle.strkw_ecma.specs.machine.Reading.{Outer, Level, Last, Mode, with_mode, with_digit, next_in, read_from}
 use Rattle.strkw_ecma.proofs.Steps.{and_true, and_left, and_right}
 use Rattle.strkw_ecma.specs.machine.CodeReading.{value_or}
@@ -67,8 +69,8 @@ token_of_digit c h = ap (λ (b : Bool). if b then digit else if c == byte "," th
 
 module _ (outer : Outer trees) (l : Level trees) (x : Last trees) (m : Option (List ℕ) → Mode trees)
     (turn : (o : Option (List ℕ)) (c : ℕ) → count_token c ≡ digit
-        → next_in (standing outer l x) (m o) c
-        ≡ option_map (λ (n : List ℕ). with_mode (standing outer l x) (m (Some n))) (with_digit trees o c)) where
+    → next_in (standing outer l x) (m o) c
+    ≡ option_map (λ (n : List ℕ). with_mode (standing outer l x) (m (Some n))) (with_digit trees o c)) where
   -- the tree of the whole, where the rest stands behind these digits
   abbrev behind : Option (List ℕ) → List ℕ → Option Disjunction
   behind o cs = read_from (with_mode (standing outer l x) (m o)) cs

@@ -9,7 +9,7 @@ use Rattle.strkw_pattern.specs.declared.engine.Outcome.TheVariants.{Match, NoMat
 use Rattle.strkw_ecma.specs.Names.{are_distinct}
 use Rattle.strkw_ecma.specs.Syntax.{Disjunction, names}
 use Rattle.strkw_ecma.specs.Syntax.{max_length}
-use Rattle.strkw_ecma.specs.machine.Reading.{read_short, read_pattern, small}
+use Rattle.strkw_ecma.specs.machine.Reading.{read_short, read_pattern, keep_small}
 use Rattle.strkw_ecma.specs.Lookahead.{is_apart}
 use Rattle.strkw_ecma.specs.Front.{parts, steps_of_parts}
 use Rattle.strkw_ecma.specs.Size.{max_steps}
@@ -41,7 +41,7 @@ distinct_of d true e h = e
 -- where the reader comes to a tree that is not left out, the text is a pattern
 derived_of : (source : List ℕ) (a b : Bool) (o : Option Disjunction) → is_apart source ≡ a → leb (length source) max_length ≡ b
     → read_from (initial trees) source ≡ o → IsSpelled o source → IsFormed o
-    → IsTrue (is_some (if a then small trees (if b then o else None) else None)) → (d : Disjunction) × IsPattern source d
+    → IsTrue (is_some (if a then keep_small trees (if b then o else None) else None)) → (d : Disjunction) × IsPattern source d
 derived_of source false b o a e r s f h = absurd (true≢false (sym h))
 derived_of source true false o a e r s f h = absurd (true≢false (sym h))
 derived_of source true true None a e r s f h = absurd (true≢false (sym h))
@@ -59,10 +59,10 @@ derived_of source true true (Some d) a e r s f h =
 -- a pattern is read as its tree
 read_is : (source : List ℕ) (d : Disjunction) → IsPattern source d → read_pattern trees source ≡ Some d
 read_is source d p =
-    ap (λ (b : Bool). if b then small trees (read_short trees source) else None) p.apart
-    ∙ ap (λ (b : Bool). small trees (if b then read_from (initial trees) source else None)) (le-leb (length source) max_length p.short)
-    ∙ ap (λ (z : List ℕ). small trees (read_from (initial trees) z)) (sym p.spelled) ∙ ap (small trees) (complete d p.formed)
-    ∙ ap (λ (b : Bool). small trees (when b (Some d))) p.distinct
+    ap (λ (b : Bool). if b then keep_small trees (read_short trees source) else None) p.apart
+    ∙ ap (λ (b : Bool). keep_small trees (if b then read_from (initial trees) source else None)) (le-leb (length source) max_length p.short)
+    ∙ ap (λ (z : List ℕ). keep_small trees (read_from (initial trees) z)) (sym p.spelled) ∙ ap (keep_small trees) (complete d p.formed)
+    ∙ ap (λ (b : Bool). keep_small trees (when b (Some d))) p.distinct
     ∙ ap (λ (b : Bool). when b (Some d)) (le-leb (steps_of_parts (parts (pattern d))) max_steps p.small)
 
 -- the tree that there is, or else the first one

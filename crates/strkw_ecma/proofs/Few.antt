@@ -18,7 +18,7 @@ use Rattle.strkw_ecma.specs.Sets.{word_characters}
 use Rattle.strkw_ecma.specs.Program.{Instruction, read, assert, peek, fork, other, join, star_begin, star_end, plus_begin, plus_end, look_begin, look_end}
 use Rattle.strkw_ecma.specs.Program.{glance, program, alternatives, read_count, asks_word, asks_boundary}
 use Rattle.strkw_ecma.specs.Size.{instruction_steps, steps_of, steps}
-use Rattle.strkw_ecma.specs.machine.Shape.{turned, reading, peeking, instructions, are_within}
+use Rattle.strkw_ecma.specs.machine.Shape.{turn_instruction, read_instruction, peek_instruction, instructions, are_within}
 use Rattle.strkw_ecma.proofs.Steps.{and_left, and_right, or_left, or_right}
 use Rattle.strkw_ecma.proofs.Programs.{by_class, by_option}
 
@@ -270,20 +270,20 @@ module _ (known : List (Vec CharSet Global)) where
 
   -- where the sets of each class are told, an instruction that reads one of the classes is
   class_told : (again optional : Bool) (cs : List Class) (k : ℕ) → k < length cs → AllByRecursion (λ c. TellsSets known c.sets.items) cs
-      → IsTold known (reading again optional (slice_get cs k))
+      → IsTold known (read_instruction again optional (slice_get cs k))
   class_told again optional [] k h all = absurd (omega (arith, h))
   class_told again optional (c ∷ cs) zero h all = all.0
   class_told again optional (c ∷ cs) (suc k) h all = class_told again optional cs k (omega (arith, h)) all.1
 
   -- and one that peeks at one
   class_peeked : (cs : List Class) (k : ℕ) → k < length cs → AllByRecursion (λ c. TellsSets known c.sets.items) cs
-      → IsTold known (peeking (slice_get cs k))
+      → IsTold known (peek_instruction (slice_get cs k))
   class_peeked [] k h all = absurd (omega (arith, h))
   class_peeked (c ∷ cs) zero h all = all.0
   class_peeked (c ∷ cs) (suc k) h all = class_peeked cs k (omega (arith, h)) all.1
 
   -- an instruction that reads no class is told
-  turn_told : (t : CodeTurn) → IsTold known (turned t)
+  turn_told : (t : CodeTurn) → IsTold known (turn_instruction t)
   turn_told turn.Start = tt
   turn_told _ = tt
 

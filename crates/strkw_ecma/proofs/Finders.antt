@@ -5,7 +5,7 @@ use Rattle.strkw_ecma.specs.Mirror.{along}
 use Rattle.strkw_ecma.specs.machine.Engine.{is_found_by, are_found_by}
 use Rattle.strkw_ecma.specs.machine.Passes.{Pass, pass_of, are_passes_found}
 use Rattle.strkw_ecma.specs.machine.Search.{found_in}
-use Rattle.strkw_ecma.specs.machine.Shape.{outlined}
+use Rattle.strkw_ecma.specs.machine.Shape.{outline_pattern}
 use Rattle.strkw_ecma.specs.declared.finder.PartFinder.{PartFinder}
 use Rattle.strkw_ecma.specs.declared.passes.Pass.{Pass as CodePass}
 
@@ -20,7 +20,7 @@ and_grouped false b c = refl
 
 -- what one finder more finds stands before what the others are to find
 pub one_found : (fs : List PartFinder) (f : PartFinder) (x : CodePass) (rest : List Pass) (text : List ℕ) → f.negated ≡ x.negated
-    → is_found_by f.search text ≡ found_in (outlined x.pattern) (along x.is_backward text)
+    → is_found_by f.search text ≡ found_in (outline_pattern x.pattern) (along x.is_backward text)
     → (are_found_by (fs ++ (f ∷ [])) text && are_passes_found rest text) ≡ (are_found_by fs text && are_passes_found (pass_of x ∷ rest) text)
 one_found [] f x rest text e g =
     and_grouped (differ f.negated (is_found_by f.search text)) true (are_passes_found rest text)

@@ -1,6 +1,5 @@
 -- What is read is well formed: each character stands where it may.
 use Rattle.std.proofs.Common.{◌≡◌, ◌==◌, ℕ, suc, Bool, true, false, List, [], ◌∷◌, Option, Some, None, refl, length, ◌<◌, ◌≤◌, ◌*◌, ◌++◌, nat_lt, nat_le, ◌&&◌}
-use Rattle.std.proofs.Common.{arith}
 use Rattle.std.specs.Prelude.{option_and_then, option_map, is_some}
 use Rattle.std.proofs.lemmas.Bool.{ltb-true, leb-true}
 use Rattle.std.specs.Str.{byte}
@@ -22,7 +21,8 @@ use Rattle.strkw_ecma.specs.machine.PropertyReading.{PropertyRead, no_property_r
 use Rattle.strkw_ecma.proofs.PropertyReadings.{IsPart, IsRead, property_formed}
 use Rattle.strkw_ecma.specs.declared.tree.CharSet.{CharSet}
 use Rattle.strkw_ecma.specs.WellFormed.{IsQuantifier, IsEnclosing, IsWellFormed, IsAlternative, IsAtom}
-use Rattle.strkw_ecma.specs.Numbers.{number, number_of, is_digit, are_digits, max_count, IsNumber, CountToken, digit, comma, closing_brace, no_count, count_token}
+use Rattle.strkw_ecma.specs.Numbers.{number, number_of, is_digit, are_digits, max_count, IsNumber, CountToken, digit, comma, closing_brace, no_count}
+use Rattle.strkw_ecma.specs.Numbers.{count_token}
 use Rattle.strkw_ecma.specs.Size.{steps, max_term_steps}
 use Rattle.strkw_ecma.specs.Patterns.{atom_pattern, times, copies}
 use Rattle.strkw_ecma.proofs.Digits.{digits_push, is_digit_of}
@@ -30,11 +30,13 @@ use Rattle.strkw_ecma.proofs.CodeReadings.{IsCoding, IsCoded, coding_formed, is_
 use Rattle.strkw_ecma.specs.machine.Reading.{Open, Outer, Level, Last, none, atom, counted, Pending, fresh, one, dashed, Class, Mode, between, escaping}
 use Rattle.strkw_ecma.specs.machine.Reading.{opening, extending, class_opened, Count, low, high, counting, when, with_count, on_range_end, on_low}
 use Rattle.strkw_ecma.specs.machine.Reading.{on_high, on_count, in_class, class_escaping, coding, class_coding, in_property, in_class_property, is_between}
-use Rattle.strkw_ecma.specs.machine.Reading.{State, with_mode, new_level, all_terms, joined, whole_level, with_part, closed_in, naming, name_escaping, name_coding}
+use Rattle.strkw_ecma.specs.machine.Reading.{State, with_mode, new_level, all_terms, join_alternatives, whole_level, with_part, close_in, naming, name_escaping}
+use Rattle.strkw_ecma.specs.machine.Reading.{name_coding}
 use Rattle.strkw_ecma.specs.machine.Reading.{on_name_char, on_name_end, on_look, on_naming}
 use Rattle.strkw_ecma.specs.machine.Reading.{on_name_escape, on_name_coding, closes}
 use Rattle.strkw_ecma.specs.machine.Reading.{with_quantifier, with_question}
-use Rattle.strkw_ecma.specs.machine.Reading.{with_open, on_token, on_group, on_extension, on_escape, took, took_dash, ranged, whole_class, within, on_class_token}
+use Rattle.strkw_ecma.specs.machine.Reading.{with_open, on_token, on_group, on_extension, on_escape, take_atom, take_dash, take_range, whole_class, with_class}
+use Rattle.strkw_ecma.specs.machine.Reading.{on_class_token}
 use Rattle.strkw_ecma.specs.machine.Reading.{on_class_escape, on_coding, on_class_coding, on_property, on_class_property, on_bracket, next_in, next, read_from}
 use Rattle.strkw_ecma.specs.machine.Reading.{initial}
 use Rattle.strkw_ecma.specs.machine.CodeReading.{value_or}
@@ -122,7 +124,7 @@ ended_formed n a (atom x) h k = (h, k)
 ended_formed n a (counted (x, q)) h k = (h, k)
 
 -- and so are well-formed terms with well-formed alternatives before them
-pub level_formed : (n : ℕ) (e : Option Disjunction) (a : Alternative) → IsEarlier n e → IsAlternative n a → IsWellFormed n (joined trees e a)
+pub level_formed : (n : ℕ) (e : Option Disjunction) (a : Alternative) → IsEarlier n e → IsAlternative n a → IsWellFormed n (join_alternatives trees e a)
 level_formed n None a h k = k
 level_formed n (Some d) a h k = (h, k)
 
@@ -141,14 +143,15 @@ question_formed outer l (atom a) f g h = (f, g, (h, tt), tt)
 question_formed outer l (counted (a, q)) f g h = (f, (g.0, (g.1, h)), tt, tt)
 
 -- and behind the end of a group or a lookbehind with a well-formed tree
-enclosed_formed : (outer : Outer trees) (l : Level trees) (g : Enclosing) (d : Disjunction) → AreLevels outer.groups → IsLevel (length outer.groups) l → IsEnclosing g
+enclosed_formed : (outer : Outer trees) (l : Level trees) (g : Enclosing) (d : Disjunction) → AreLevels outer.groups → IsLevel (length outer.groups) l
+    → IsEnclosing g
     → length outer.groups < max_nesting → IsWellFormed (suc (length outer.groups)) d → IsState (with_part outer l (enclosed_tree g d))
 enclosed_formed outer l (of_group g) d f w k deep h = (f, w, ((k, deep), h), tt)
 enclosed_formed outer l (of_lookbehind n) d f w k deep h = (f, (w.0, (w.1, (deep, h))), tt, tt)
 enclosed_formed outer l (of_lookahead n) d f w k deep h = (f, (w.0, (w.1, (deep, h))), tt, tt)
 
 -- so it is where something is open
-close_formed : (os : List (Open trees)) (ns : List (List ℕ)) (d : Disjunction) → AreLevels os → IsWellFormed (length os) d → Makes (closed_in os ns d)
+close_formed : (os : List (Open trees)) (ns : List (List ℕ)) (d : Disjunction) → AreLevels os → IsWellFormed (length os) d → Makes (close_in os ns d)
 close_formed [] ns d f h = tt
 close_formed (o ∷ os) ns d f h =
     enclosed_formed (record { groups = os; names = ns }) o.level o.enclosing d f.1 f.0.0 f.0.1 f.0.2 h
@@ -335,7 +338,8 @@ pub name_push : (n : List NameChar) (y : NameChar) → IsNamePart n → IsNameCh
 name_push [] y h w = (w, tt)
 name_push (z ∷ n) y h w = (h.0, parts_push n y h.1 w)
 
-module _ (outer : Outer trees) (l : Level trees) (x : Last trees) (f : AreLevels outer.groups) (g : IsLevel (length outer.groups) l) (h : IsLast (length outer.groups) x) where
+module _ (outer : Outer trees) (l : Level trees) (x : Last trees) (f : AreLevels outer.groups) (g : IsLevel (length outer.groups) l)
+    (h : IsLast (length outer.groups) x) where
   -- behind a character that suits a name where it may follow, a well-formed state stays so
   name_char_formed : (n : List NameChar) (y : NameChar) → IsNamePart n
       → (may_follow (name_value n) (name_char_value y) ≡ true → IsNameChar (may_follow (name_value n)) y) → Makes (on_name_char (standing outer l x) n y)
@@ -393,20 +397,20 @@ suits A (dashed z) y h w = tt
 
 -- a well-formed class stays so with a range of two atoms, where these bound one
 ranged_formed : (n : Bool) (r : Ranges) (w y : ClassAtom) (o : Option CharSet) → range (item w) (item y) ≡ o
-    → AreRanges n r → IsClassAtom w × MayFollow n r w → IsClassAtom y → MakesClass (ranged n r w y o)
+    → AreRanges n r → IsClassAtom w × MayFollow n r w → IsClassAtom y → MakesClass (take_range n r w y o)
 ranged_formed n r w y None e f g h = tt
 ranged_formed n r w y (Some s) e f g h = ((f, g, h, rw e refl), λ z a. tt)
 
 -- and with one more atom that suits what is pending
 took_formed : (A : ClassAtom → Type 0) (n : Bool) (r : Ranges) (p : Pending trees) (y : ClassAtom) → AreRanges n r → IsPending A n r p
-    → IsClassAtom y → Suits A p y → MakesClass (took n r p y)
+    → IsClassAtom y → Suits A p y → MakesClass (take_atom n r p y)
 took_formed A n r fresh y f g h w = (f, (h, g y w))
 took_formed A n r (one z) y f g h w = ((f, g.0, g.1), (h, w))
 took_formed A n r (dashed z) y f g h w = ranged_formed n r z y _ refl f g h
 
 -- and with a `-` more, where A holds of it
 dash_formed : (A : ClassAtom → Type 0) (n : Bool) (r : Ranges) (p : Pending trees) → AreRanges n r → IsPending A n r p → A hyphen
-    → MakesClass (took_dash n r p)
+    → MakesClass (take_dash n r p)
 dash_formed A n r fresh f g a = took_formed A n r fresh hyphen f g tt a
 dash_formed A n r (one z) f g a = (f, g)
 dash_formed A n r (dashed z) f g a = took_formed A n r (dashed z) hyphen f g tt tt
@@ -426,9 +430,10 @@ escapes_pending A n r fresh a g = λ y w. g y (a y w)
 escapes_pending A n r (one z) a g = g
 escapes_pending A n r (dashed z) a g = g
 
-module _ (outer : Outer trees) (l : Level trees) (x : Last trees) (f : AreLevels outer.groups) (g : IsLevel (length outer.groups) l) (h : IsLast (length outer.groups) x) where
+module _ (outer : Outer trees) (l : Level trees) (x : Last trees) (f : AreLevels outer.groups) (g : IsLevel (length outer.groups) l)
+    (h : IsLast (length outer.groups) x) where
   -- the state in a class that was made is well formed, where the class is
-  within_formed : (o : Option (Class trees)) → MakesClass o → Makes (within (standing outer l x) o)
+  within_formed : (o : Option (Class trees)) → MakesClass o → Makes (with_class (standing outer l x) o)
   within_formed None k = tt
   within_formed (Some c) k = (f, g, h, k)
 

@@ -3,7 +3,7 @@ use Rattle.std.proofs.Common.{◌≡◌, ◌↔◌, ℕ, Bool, true, false, List
 use Rattle.strkw_ecma.specs.Tree.{Pattern}
 use Rattle.strkw_ecma.specs.Meaning.{Found}
 use Rattle.strkw_ecma.specs.Glances.{are_told}
-use Rattle.strkw_ecma.specs.machine.Marks.{unmarked}
+use Rattle.strkw_ecma.specs.machine.Marks.{is_unmarked}
 use Rattle.strkw_ecma.specs.machine.Search.{search_from, found_in}
 use Rattle.strkw_ecma.specs.machine.Sight.{depth, ends_by, begins_at}
 use Rattle.strkw_ecma.proofs.Answers.{search_is_exact}
@@ -11,7 +11,7 @@ use Rattle.strkw_ecma.proofs.Sights.{begins_right, found_right}
 use Rattle.strkw_ecma.proofs.Unmarked.{clean_unmarked}
 
 -- the search finds a pattern without marks exactly where its meaning has it in the text
-pub found_in_right : (p : Pattern) (text : List ℕ) → unmarked p ≡ true → IsTrue (found_in p text) ↔ Found p text
+pub found_in_right : (p : Pattern) (text : List ℕ) → is_unmarked p ≡ true → IsTrue (found_in p text) ↔ Found p text
 found_in_right p text bare = by_test (are_told p) refl
   where
     -- by whether the next character tells what its lookaheads look for

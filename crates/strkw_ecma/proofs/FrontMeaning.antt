@@ -7,8 +7,8 @@ use Rattle.strkw_ecma.specs.Tree.{start, end, boundary, no_boundary, Pattern, em
 use Rattle.strkw_ecma.specs.Meaning.{before, is_edge, Unless, Matches, Found}
 use Rattle.strkw_ecma.specs.Front.{Part, first_lead, lead, lead_behind, reads_nothing, is_far, is_apart_behind, part_of, fronts, rest, parts}
 use Rattle.strkw_ecma.specs.Front.{AreFound}
-use Rattle.strkw_ecma.specs.machine.Marks.{unmarked}
-use Rattle.strkw_ecma.specs.Mirror.{sought, sought_in}
+use Rattle.strkw_ecma.specs.machine.Marks.{is_unmarked}
+use Rattle.strkw_ecma.specs.Mirror.{target, sought_in}
 use Rattle.strkw_ecma.specs.machine.Search.{search, are_parts_found, are_parts_clean}
 use Rattle.strkw_ecma.specs.declared.front.Lead.{Lead}
 use Rattle.strkw_ecma.specs.declared.front.Lead.TheVariants.{Nothing, Anchored, Past}
@@ -375,8 +375,8 @@ module _ (text : List ℕ) where
   parts_are_exact (x ∷ xs) c =
       both_true (differ x.negated (search x.pattern text)) (are_parts_found xs text) _ _
       (told_unless x.negated (search x.pattern text) (Found x.pattern text)
-      (both (found_in_right (sought x.pattern) (sought_in x.pattern text) (and_left (unmarked (sought x.pattern)) _ c)) (found_sought x.pattern text)))
-      (parts_are_exact xs (and_right (unmarked (sought x.pattern)) _ c))
+      (both (found_in_right (target x.pattern) (sought_in x.pattern text) (and_left (is_unmarked (target x.pattern)) _ c)) (found_sought x.pattern text)))
+      (parts_are_exact xs (and_right (is_unmarked (target x.pattern)) _ c))
     where
       -- two equivalences, one behind the other, are one
       both : {A B C : Type 0} → A ↔ B → B ↔ C → A ↔ C

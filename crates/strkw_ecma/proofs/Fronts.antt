@@ -8,7 +8,7 @@ use Rattle.strkw_ecma.specs.Patterns.{Times, any_times, some_times, once_at_most
 use Rattle.strkw_ecma.specs.Program.{is_empty}
 use Rattle.strkw_ecma.specs.Front.{Part, first_lead, lead, lead_behind, reads_nothing, is_far, is_apart_behind, part_of, fronts, rest}
 use Rattle.strkw_ecma.specs.machine.Fronts.{Cuts, part_view, parts_view}
-use Rattle.strkw_ecma.specs.machine.Shape.{outlined, outlined_node, is_plain, plain_node, quantifier_of}
+use Rattle.strkw_ecma.specs.machine.Shape.{outline_pattern, outline_node, is_plain, plain_node, quantifier_of}
 use Rattle.strkw_ecma.specs.declared.outline.Outline.{Outline}
 use Rattle.strkw_ecma.specs.declared.outline.Outline.TheOpen.{Outline-F}
 use Rattle.strkw_ecma.specs.declared.outline.Outline.TheViews.{roll-Outline}
@@ -69,23 +69,23 @@ lead_of_whole t p q e h = subst (λ w. is_empty w ≡ false → Past ≡ first_l
 -- outlines by their nodes
 -- what is no lookahead is none that looks far
 node_not_far : (x : Outline-F Outline) → ((n : Bool) (b : Box Outline Global) → roll-Outline x ≡ Ahead n b → ⊥)
-    → is_far (outlined (roll-Outline x)) ≡ false
-node_not_far Outline-F.Empty other = ap is_far (fold-roll-Outline Pattern outlined_node Outline-F.Empty)
-node_not_far (Outline-F.Class n s) other = ap is_far (fold-roll-Outline Pattern outlined_node (Outline-F.Class n s))
-node_not_far Outline-F.Start other = ap is_far (fold-roll-Outline Pattern outlined_node Outline-F.Start)
-node_not_far Outline-F.End other = ap is_far (fold-roll-Outline Pattern outlined_node Outline-F.End)
-node_not_far Outline-F.Boundary other = ap is_far (fold-roll-Outline Pattern outlined_node Outline-F.Boundary)
-node_not_far Outline-F.NoBoundary other = ap is_far (fold-roll-Outline Pattern outlined_node Outline-F.NoBoundary)
-node_not_far (Outline-F.Then a b) other = ap is_far (fold-roll-Outline Pattern outlined_node (Outline-F.Then a b))
-node_not_far (Outline-F.Or a b) other = ap is_far (fold-roll-Outline Pattern outlined_node (Outline-F.Or a b))
+    → is_far (outline_pattern (roll-Outline x)) ≡ false
+node_not_far Outline-F.Empty other = ap is_far (fold-roll-Outline Pattern outline_node Outline-F.Empty)
+node_not_far (Outline-F.Class n s) other = ap is_far (fold-roll-Outline Pattern outline_node (Outline-F.Class n s))
+node_not_far Outline-F.Start other = ap is_far (fold-roll-Outline Pattern outline_node Outline-F.Start)
+node_not_far Outline-F.End other = ap is_far (fold-roll-Outline Pattern outline_node Outline-F.End)
+node_not_far Outline-F.Boundary other = ap is_far (fold-roll-Outline Pattern outline_node Outline-F.Boundary)
+node_not_far Outline-F.NoBoundary other = ap is_far (fold-roll-Outline Pattern outline_node Outline-F.NoBoundary)
+node_not_far (Outline-F.Then a b) other = ap is_far (fold-roll-Outline Pattern outline_node (Outline-F.Then a b))
+node_not_far (Outline-F.Or a b) other = ap is_far (fold-roll-Outline Pattern outline_node (Outline-F.Or a b))
 node_not_far (Outline-F.Repeated q b) other =
-    ap is_far (fold-roll-Outline Pattern outlined_node (Outline-F.Repeated q b)) ∙ sym (far_of_times (quantifier_of q) (outlined b.value))
-node_not_far (Outline-F.Behind n b) other = ap is_far (fold-roll-Outline Pattern outlined_node (Outline-F.Behind n b))
+    ap is_far (fold-roll-Outline Pattern outline_node (Outline-F.Repeated q b)) ∙ sym (far_of_times (quantifier_of q) (outline_pattern b.value))
+node_not_far (Outline-F.Behind n b) other = ap is_far (fold-roll-Outline Pattern outline_node (Outline-F.Behind n b))
 node_not_far (Outline-F.Ahead n b) other = absurd (other n b (rolls-Ahead n b))
 
 -- an outline that is no lookahead stands for no lookahead that looks far
-pub not_far : (o : Outline) → ((n : Bool) (b : Box Outline Global) → o ≡ Ahead n b → ⊥) → is_far (outlined o) ≡ false
-not_far = ind-Outline (λ o. ((n : Bool) (b : Box Outline Global) → o ≡ Ahead n b → ⊥) → is_far (outlined o) ≡ false)
+pub not_far : (o : Outline) → ((n : Bool) (b : Box Outline Global) → o ≡ Ahead n b → ⊥) → is_far (outline_pattern o) ≡ false
+not_far = ind-Outline (λ o. ((n : Bool) (b : Box Outline Global) → o ≡ Ahead n b → ⊥) → is_far (outline_pattern o) ≡ false)
     (λ x y is. node_not_far x)
 
 -- nothing is cut off a pattern that is one term
@@ -94,22 +94,22 @@ IsOneTerm p = (lead p ≡ first_lead p) × (rest p ≡ p) × (fronts p ≡ [])
 
 -- what is plain and no sequence is one term
 node_one_term : (x : Outline-F Outline) → is_plain (roll-Outline x) ≡ true
-    → ((a b : Box Outline Global) → roll-Outline x ≡ Then a b → ⊥) → IsOneTerm (outlined (roll-Outline x))
-node_one_term Outline-F.Empty w other = subst IsOneTerm (sym (fold-roll-Outline Pattern outlined_node Outline-F.Empty)) (refl, refl, refl)
-node_one_term (Outline-F.Class n s) w other = subst IsOneTerm (sym (fold-roll-Outline Pattern outlined_node (Outline-F.Class n s))) (refl, refl, refl)
-node_one_term Outline-F.Start w other = subst IsOneTerm (sym (fold-roll-Outline Pattern outlined_node Outline-F.Start)) (refl, refl, refl)
-node_one_term Outline-F.End w other = subst IsOneTerm (sym (fold-roll-Outline Pattern outlined_node Outline-F.End)) (refl, refl, refl)
-node_one_term Outline-F.Boundary w other = subst IsOneTerm (sym (fold-roll-Outline Pattern outlined_node Outline-F.Boundary)) (refl, refl, refl)
-node_one_term Outline-F.NoBoundary w other = subst IsOneTerm (sym (fold-roll-Outline Pattern outlined_node Outline-F.NoBoundary)) (refl, refl, refl)
+    → ((a b : Box Outline Global) → roll-Outline x ≡ Then a b → ⊥) → IsOneTerm (outline_pattern (roll-Outline x))
+node_one_term Outline-F.Empty w other = subst IsOneTerm (sym (fold-roll-Outline Pattern outline_node Outline-F.Empty)) (refl, refl, refl)
+node_one_term (Outline-F.Class n s) w other = subst IsOneTerm (sym (fold-roll-Outline Pattern outline_node (Outline-F.Class n s))) (refl, refl, refl)
+node_one_term Outline-F.Start w other = subst IsOneTerm (sym (fold-roll-Outline Pattern outline_node Outline-F.Start)) (refl, refl, refl)
+node_one_term Outline-F.End w other = subst IsOneTerm (sym (fold-roll-Outline Pattern outline_node Outline-F.End)) (refl, refl, refl)
+node_one_term Outline-F.Boundary w other = subst IsOneTerm (sym (fold-roll-Outline Pattern outline_node Outline-F.Boundary)) (refl, refl, refl)
+node_one_term Outline-F.NoBoundary w other = subst IsOneTerm (sym (fold-roll-Outline Pattern outline_node Outline-F.NoBoundary)) (refl, refl, refl)
 node_one_term (Outline-F.Then a b) w other = absurd (other a b (rolls-Then a b))
-node_one_term (Outline-F.Or a b) w other = subst IsOneTerm (sym (fold-roll-Outline Pattern outlined_node (Outline-F.Or a b))) (refl, refl, refl)
+node_one_term (Outline-F.Or a b) w other = subst IsOneTerm (sym (fold-roll-Outline Pattern outline_node (Outline-F.Or a b))) (refl, refl, refl)
 node_one_term (Outline-F.Repeated q b) w other = absurd (true≢false (sym w ∙ fold-roll-Outline Bool plain_node (Outline-F.Repeated q b)))
-node_one_term (Outline-F.Behind n b) w other = subst IsOneTerm (sym (fold-roll-Outline Pattern outlined_node (Outline-F.Behind n b))) (refl, refl, refl)
-node_one_term (Outline-F.Ahead n b) w other = subst IsOneTerm (sym (fold-roll-Outline Pattern outlined_node (Outline-F.Ahead n b))) (refl, refl, refl)
+node_one_term (Outline-F.Behind n b) w other = subst IsOneTerm (sym (fold-roll-Outline Pattern outline_node (Outline-F.Behind n b))) (refl, refl, refl)
+node_one_term (Outline-F.Ahead n b) w other = subst IsOneTerm (sym (fold-roll-Outline Pattern outline_node (Outline-F.Ahead n b))) (refl, refl, refl)
 
 -- an outline that is plain and no sequence stands for one term
-pub one_term : (o : Outline) → is_plain o ≡ true → ((a b : Box Outline Global) → o ≡ Then a b → ⊥) → IsOneTerm (outlined o)
-one_term = ind-Outline (λ o. is_plain o ≡ true → ((a b : Box Outline Global) → o ≡ Then a b → ⊥) → IsOneTerm (outlined o))
+pub one_term : (o : Outline) → is_plain o ≡ true → ((a b : Box Outline Global) → o ≡ Then a b → ⊥) → IsOneTerm (outline_pattern o)
+one_term = ind-Outline (λ o. is_plain o ≡ true → ((a b : Box Outline Global) → o ≡ Then a b → ⊥) → IsOneTerm (outline_pattern o))
     (λ x y is. node_one_term x)
 
 -- a term that does not look far is no part of its own
@@ -156,8 +156,8 @@ view_append (x ∷ xs) ys = ap (λ (l : List Part). part_view x ∷ l) (view_app
 
 -- what is cut off a pattern and a lookahead behind it that is a part of its own
 pub cuts_apart : (c new : Cut) (p : Pattern) (n : Bool) (q : Pattern) (f : Front) (old mid last : List Front) → Cuts c p old mid
-    → is_apart_behind c.lead (lookahead n q) ≡ true → new.lead ≡ c.lead → outlined new.rest ≡ outlined c.rest
-    → f.negated ≡ n → outlined f.pattern ≡ cat (look start) q → last ≡ mid ++ f ∷ [] → Cuts new (cat p (lookahead n q)) old last
+    → is_apart_behind c.lead (lookahead n q) ≡ true → new.lead ≡ c.lead → outline_pattern new.rest ≡ outline_pattern c.rest
+    → f.negated ≡ n → outline_pattern f.pattern ≡ cat (look start) q → last ≡ mid ++ f ∷ [] → Cuts new (cat p (lookahead n q)) old last
 cuts_apart c new p n q f old mid last w e lead_is rest_is negated_is pattern_is last_is =
     let t = lookahead n q in
     let apart : is_apart_behind (lead p) t ≡ true = ap (λ (l : Lead). is_apart_behind l t) (sym w.lead) ∙ e in
@@ -166,14 +166,14 @@ cuts_apart c new p n q f old mid last w e lead_is rest_is negated_is pattern_is 
       rest = rest_is ∙ w.rest ∙ sym (rest_apart p t apart);
       fronts = ap parts_view last_is ∙ view_append mid (f ∷ [])
           ∙ ap (λ (l : List Part). l ++ part_view f ∷ []) w.fronts ∙ append_assoc (parts_view old) (fronts p) (part_view f ∷ [])
-          ∙ ap (λ (b : Bool). parts_view old ++ (fronts p ++ record { negated = b; pattern = outlined f.pattern } ∷ [])) negated_is
+          ∙ ap (λ (b : Bool). parts_view old ++ (fronts p ++ record { negated = b; pattern = outline_pattern f.pattern } ∷ [])) negated_is
           ∙ ap (λ (r : Pattern). parts_view old ++ (fronts p ++ record { negated = n; pattern = r } ∷ [])) pattern_is
           ∙ ap (λ (l : List Part). parts_view old ++ l) (sym (fronts_apart p t apart));
     }
 
 -- and of any other term
 pub cuts_with : (c new : Cut) (p t : Pattern) (old mid : List Front) → Cuts c p old mid → is_apart_behind c.lead t ≡ false
-    → new.lead ≡ lead_behind c.lead t → outlined new.rest ≡ cat (outlined c.rest) t → Cuts new (cat p t) old mid
+    → new.lead ≡ lead_behind c.lead t → outline_pattern new.rest ≡ cat (outline_pattern c.rest) t → Cuts new (cat p t) old mid
 cuts_with c new p t old mid w e lead_is rest_is =
     let with : is_apart_behind (lead p) t ≡ false = ap (λ (l : Lead). is_apart_behind l t) (sym w.lead) ∙ e in
     record {

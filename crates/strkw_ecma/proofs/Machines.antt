@@ -11,8 +11,8 @@ use Rattle.strkw_ecma.specs.declared.tree.CharSet.{CharSet}
 use Rattle.strkw_ecma.specs.machine.Marks.{reads, classes}
 use Rattle.strkw_ecma.specs.Program.{Instruction, read, peek, star_begin, plus_begin, read_count, is_loop, has_loop}
 use Rattle.strkw_ecma.specs.Size.{max_steps}
-use Rattle.strkw_ecma.specs.machine.Walk.{top, below, Asked, back_over, asked, marks_behind, Following, Walked, over, left_by, followed}
-use Rattle.strkw_ecma.specs.machine.Shape.{turned, reading, peeking, instructed, instructions, are_within}
+use Rattle.strkw_ecma.specs.machine.Walk.{first_or_false, below, Asked, back_over, asked, marks_behind, Following, Walked, over, left_by, followed}
+use Rattle.strkw_ecma.specs.machine.Shape.{turn_instruction, read_instruction, peek_instruction, instruction_of, instructions, are_within}
 use Rattle.strkw_ecma.specs.machine.Machine.{pattern_of, program_of, class_reads}
 use Rattle.strkw_ecma.specs.declared.code.Class.{Class}
 use Rattle.strkw_ecma.specs.declared.code.Turn.{Turn as CodeTurn}
@@ -28,10 +28,10 @@ use Rattle.strkw_ecma.proofs.Rows.{one_more}
 
 -- what stands from a place on begins with the instruction that stands there
 pub from_place : (cs : List Class) (is : List CodeInstruction) (k : ℕ) (d : CodeInstruction) → k < length is
-    → drop k (instructions cs is) ≡ instructed cs (get_or is k d) ∷ drop (suc k) (instructions cs is)
+    → drop k (instructions cs is) ≡ instruction_of cs (get_or is k d) ∷ drop (suc k) (instructions cs is)
 from_place cs is k d h =
     drop_instructions cs k is ∙ ap (instructions cs) (drop-cons is k d h)
-    ∙ ap (λ (js : List Instruction). instructed cs (get_or is k d) ∷ js) (sym (drop_instructions cs (suc k) is))
+    ∙ ap (λ (js : List Instruction). instruction_of cs (get_or is k d) ∷ js) (sym (drop_instructions cs (suc k) is))
 
 -- and from the end on nothing stands
 pub from_end : (cs : List Class) (is : List CodeInstruction) (k : ℕ) → length is ≤ k → drop k (instructions cs is) ≡ []
@@ -62,17 +62,17 @@ peeked_within n is k class d h here within =
 
 -- classes and others
 -- an instruction that reads a class is one more that reads
-pub one_read : (o : Option Class) (again optional : Bool) (is : List Instruction) → read_count (reading again optional o ∷ is) ≡ read_count is + 1
+pub one_read : (o : Option Class) (again optional : Bool) (is : List Instruction) → read_count (read_instruction again optional o ∷ is) ≡ read_count is + 1
 one_read None again optional is = refl
 one_read (Some c) again optional is = refl
 
 -- one that peeks at a class changes nothing of how many do
-pub none_peeked : (o : Option Class) (is : List Instruction) → read_count (peeking o ∷ is) ≡ read_count is
+pub none_peeked : (o : Option Class) (is : List Instruction) → read_count (peek_instruction o ∷ is) ≡ read_count is
 none_peeked None is = refl
 none_peeked (Some c) is = refl
 
 -- and any other neither
-pub none_read : (t : CodeTurn) (is : List Instruction) → read_count (turned t ∷ is) ≡ read_count is
+pub none_read : (t : CodeTurn) (is : List Instruction) → read_count (turn_instruction t ∷ is) ≡ read_count is
 none_read turn.Start is = refl
 none_read _ is = refl
 
@@ -104,12 +104,12 @@ neither false y h g = g
 
 -- no loop stands before the next place, where none stands before this one and at it
 pub none_before_next : (cs : List Class) (is : List CodeInstruction) (k : ℕ) (d : CodeInstruction) → k < length is
-    → has_loop (take k (instructions cs is)) ≡ false → is_loop (instructed cs (get_or is k d)) ≡ false
+    → has_loop (take k (instructions cs is)) ≡ false → is_loop (instruction_of cs (get_or is k d)) ≡ false
     → has_loop (take (suc k) (instructions cs is)) ≡ false
 none_before_next cs [] k d h before none = absurd (omega (arith, h))
 none_before_next cs (i ∷ is) zero d h before none = neither _ _ none refl
 none_before_next cs (i ∷ is) (suc k) d h before none =
-    neither _ _ (neither_first _ _ before) (none_before_next cs is k d (omega (arith, h)) (neither_second (is_loop (instructed cs i)) _ before) none)
+    neither _ _ (neither_first _ _ before) (none_before_next cs is k d (omega (arith, h)) (neither_second (is_loop (instruction_of cs i)) _ before) none)
 
 -- the marks behind the first
 drop_below : (n : ℕ) (ms : List Bool) → drop n (below ms) ≡ drop (suc n) ms
@@ -157,24 +157,24 @@ none_reads (Some c) = refl
 module _ (p : Program) (k : ℕ) (within : k < length p.code.instructions.items) where
   -- the program from place k on begins with the instruction that stands there
   from_instruction : (i : CodeInstruction) → get_or p.code.instructions.items k (Read 0 false false) ≡ i
-      → drop k (program_of p) ≡ instructed p.code.classes.items i ∷ drop (suc k) (program_of p)
+      → drop k (program_of p) ≡ instruction_of p.code.classes.items i ∷ drop (suc k) (program_of p)
   from_instruction i here =
       from_place p.code.classes.items p.code.instructions.items k (Read 0 false false) within
-      ∙ ap (λ (j : CodeInstruction). instructed p.code.classes.items j ∷ drop (suc k) (program_of p)) here
+      ∙ ap (λ (j : CodeInstruction). instruction_of p.code.classes.items j ∷ drop (suc k) (program_of p)) here
 
   -- the same where that reads a class
   pub from_class : (class : ℕ) (again optional : Bool) → get_or p.code.instructions.items k (Read 0 false false) ≡ Read class again optional
-      → drop k (program_of p) ≡ reading again optional (slice_get p.code.classes.items class) ∷ drop (suc k) (program_of p)
+      → drop k (program_of p) ≡ read_instruction again optional (slice_get p.code.classes.items class) ∷ drop (suc k) (program_of p)
   from_class class again optional here = from_instruction (Read class again optional) here
 
   -- and where it peeks at one
   pub from_peek : (class : ℕ) → get_or p.code.instructions.items k (Read 0 false false) ≡ Peek class
-      → drop k (program_of p) ≡ peeking (slice_get p.code.classes.items class) ∷ drop (suc k) (program_of p)
+      → drop k (program_of p) ≡ peek_instruction (slice_get p.code.classes.items class) ∷ drop (suc k) (program_of p)
   from_peek class here = from_instruction (Peek class) here
 
   -- and where it reads none
   pub from_turn : (t : CodeTurn) → get_or p.code.instructions.items k (Read 0 false false) ≡ Turn t
-      → drop k (program_of p) ≡ turned t ∷ drop (suc k) (program_of p)
+      → drop k (program_of p) ≡ turn_instruction t ∷ drop (suc k) (program_of p)
   from_turn t here = from_instruction (Turn t) here
 
   -- marks are left for what stands from there on
@@ -237,7 +237,7 @@ module _ (b a : Option ℕ) where
   -- backwards over a class
   pub asked_reading : (o : Option Class) (again optional m : Bool) (is : List Instruction) (ms : List Bool) (s t : Asked)
       → s ≡ asked b a is ms → ((n : Bool) (rs : List CharSet) → t ≡ back_over b a (read again optional n rs) m s)
-      → t ≡ asked b a (reading again optional o ∷ is) (m ∷ ms)
+      → t ≡ asked b a (read_instruction again optional o ∷ is) (m ∷ ms)
   asked_reading None again optional m is ms s t e h = h false [] ∙ ap (back_over b a (read again optional false []) m) e
   asked_reading (Some c) again optional m is ms s t e h =
       h c.negated c.sets.items ∙ ap (back_over b a (read again optional c.negated c.sets.items) m) e
@@ -246,27 +246,27 @@ module _ (b a : Option ℕ) where
   pub asked_peeking : (o : Option Class) (reads_it : Bool) (is : List Instruction) (ms : List Bool) (s t : Asked)
       → s ≡ asked b a is ms → reads_it ≡ class_reads a o
       → ((n : Bool) (rs : List CharSet) (m : Bool) → reads_it ≡ reads a n rs → t ≡ back_over b a (peek n rs) m s)
-      → t ≡ asked b a (peeking o ∷ is) ms
+      → t ≡ asked b a (peek_instruction o ∷ is) ms
   asked_peeking None reads_it is ms s t e r h =
-      h false [] (top ms) (r ∙ sym (none_reads a)) ∙ ap (back_over b a (peek false []) (top ms)) e
+      h false [] (first_or_false ms) (r ∙ sym (none_reads a)) ∙ ap (back_over b a (peek false []) (first_or_false ms)) e
   asked_peeking (Some c) reads_it is ms s t e r h =
-      h c.negated c.sets.items (top ms) r ∙ ap (back_over b a (peek c.negated c.sets.items) (top ms)) e
+      h c.negated c.sets.items (first_or_false ms) r ∙ ap (back_over b a (peek c.negated c.sets.items) (first_or_false ms)) e
 
   -- any other instruction leaves the marks
-  marks_stay : (t : CodeTurn) (ms : List Bool) → marks_behind b a (turned t) ms ≡ ms
+  marks_stay : (t : CodeTurn) (ms : List Bool) → marks_behind b a (turn_instruction t) ms ≡ ms
   marks_stay turn.Start ms = refl
   marks_stay _ ms = refl
 
   -- and adds no mark to what is left of the walk
-  nothing_left : (t : CodeTurn) (m : Bool) (s : Following) (w : Walked) → left_by b a (turned t) m s w ≡ w
+  nothing_left : (t : CodeTurn) (m : Bool) (s : Following) (w : Walked) → left_by b a (turn_instruction t) m s w ≡ w
   nothing_left turn.Start m s w = refl
   nothing_left _ m s w = refl
 
   -- backwards over any other instruction
   pub asked_turned : (t : CodeTurn) (is : List Instruction) (ms : List Bool) (s u : Asked) → s ≡ asked b a is ms
-      → ((m : Bool) → u ≡ back_over b a (turned t) m s) → u ≡ asked b a (turned t ∷ is) ms
+      → ((m : Bool) → u ≡ back_over b a (turn_instruction t) m s) → u ≡ asked b a (turn_instruction t ∷ is) ms
   asked_turned t is ms s u e h =
-      h (top ms) ∙ ap (back_over b a (turned t) (top ms)) (e ∙ ap (asked b a is) (sym (marks_stay t ms)))
+      h (first_or_false ms) ∙ ap (back_over b a (turn_instruction t) (first_or_false ms)) (e ∙ ap (asked b a is) (sym (marks_stay t ms)))
 
   -- forwards over a class, whose mark becomes another
   followed_read : (again optional n m reads_it behind : Bool) (rs : List CharSet) (is : List Instruction) (ms : List Bool) (s t : Following)
@@ -281,7 +281,7 @@ module _ (b a : Option ℕ) where
   pub followed_reading : (o : Option Class) (again optional m reads_it behind : Bool) (is : List Instruction) (ms : List Bool) (s t : Following)
       → ((n : Bool) (rs : List CharSet) → t ≡ over b a (read again optional n rs) m s)
       → reads_it ≡ class_reads a o → behind ≡ ((s.enters || (again && m)) && reads_it)
-      → followed b a (reading again optional o ∷ is) s (m ∷ ms) ≡ with_marks b a (behind ∷ []) (followed b a is t ms)
+      → followed b a (read_instruction again optional o ∷ is) s (m ∷ ms) ≡ with_marks b a (behind ∷ []) (followed b a is t ms)
   followed_reading None again optional m reads_it behind is ms s t h e f =
       followed_read again optional false m reads_it behind [] is ms s t (h false []) (e ∙ sym (none_reads a)) f
   followed_reading (Some c) again optional m reads_it behind is ms s t h e f =
@@ -290,7 +290,7 @@ module _ (b a : Option ℕ) where
   -- forwards over a class that is peeked at
   pub followed_peeking : (o : Option Class) (reads_it : Bool) (is : List Instruction) (ms : List Bool) (s : Following)
       → reads_it ≡ class_reads a o
-      → followed b a (peeking o ∷ is) s ms
+      → followed b a (peek_instruction o ∷ is) s ms
       ≡ followed b a is (record { enters = s.enters && reads_it; around = s.around; again = s.again }) ms
   followed_peeking None reads_it is ms s r =
       ap (λ (y : Bool). followed b a is (record { enters = s.enters && y; around = s.around; again = s.again }) ms) (none_reads a ∙ sym r)
@@ -299,7 +299,8 @@ module _ (b a : Option ℕ) where
 
   -- forwards over any other instruction
   pub followed_turned : (t : CodeTurn) (is : List Instruction) (ms : List Bool) (s u : Following)
-      → ((m : Bool) → u ≡ over b a (turned t) m s) → followed b a (turned t ∷ is) s ms ≡ followed b a is u ms
+      → ((m : Bool) → u ≡ over b a (turn_instruction t) m s) → followed b a (turn_instruction t ∷ is) s ms ≡ followed b a is u ms
   followed_turned t is ms s u h =
-      nothing_left t (top ms) s _ ∙ ap (λ (v : Following). followed b a is v (marks_behind b a (turned t) ms)) (sym (h (top ms)))
+      nothing_left t (first_or_false ms) s _
+      ∙ ap (λ (v : Following). followed b a is v (marks_behind b a (turn_instruction t) ms)) (sym (h (first_or_false ms)))
       ∙ ap (followed b a is u) (marks_stay t ms)

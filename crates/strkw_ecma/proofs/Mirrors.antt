@@ -6,7 +6,7 @@ use Rattle.std.proofs.lemmas.Option.{slice_get-get_or, slice_get_past, slice_get
 use Rattle.strkw_ecma.specs.Tree.{Look, start, end, boundary, no_boundary, Pattern, empty, class, look, cat, alt, star, plus, lookbehind, lookahead, differ}
 use Rattle.strkw_ecma.specs.Meaning.{Rounds, no_round, a_round, before, is_word, holds, Unless, Matches, Found}
 use Rattle.strkw_ecma.specs.Program.{is_empty}
-use Rattle.strkw_ecma.specs.Mirror.{mirror_look, mirror, facing, along, is_backward, sought, sought_in}
+use Rattle.strkw_ecma.specs.Mirror.{mirror_look, mirror, mirror_if, along, is_backward, target, sought_in}
 use Rattle.strkw_ecma.proofs.Behind.{nothing_is}
 use Rattle.strkw_ecma.proofs.Search.{before_next}
 use Rattle.strkw_ecma.proofs.Steps.{forwards, rounds_forwards}
@@ -256,10 +256,10 @@ module _ (text : List ℕ) where
       (length text - i) i (omega (arith, h))
 
 -- and what is looked for is found there exactly where the pattern is in the text
-pub found_sought : (p : Pattern) (text : List ℕ) → Found (sought p) (sought_in p text) ↔ Found p text
+pub found_sought : (p : Pattern) (text : List ℕ) → Found (target p) (sought_in p text) ↔ Found p text
 found_sought p text = by_test (is_backward p)
   where
     -- by whether the search goes from the end on
-    by_test : (b : Bool) → Found (facing b p) (along b text) ↔ Found p text
+    by_test : (b : Bool) → Found (mirror_if b p) (along b text) ↔ Found p text
     by_test false = (λ f. f, λ f. f)
     by_test true = let same = found_mirrored text p in (same.1, same.0)

@@ -13,9 +13,9 @@ use Rattle.strkw_ecma.specs.Tree.{Pattern, empty, class, look, cat, alt, star, p
 use Rattle.strkw_ecma.specs.Glances.{are_told}
 use Rattle.strkw_ecma.specs.Meaning.{Matches}
 use Rattle.strkw_ecma.specs.Mirror.{along}
-use Rattle.strkw_ecma.specs.Patterns.{Times, any_times, some_times, once_at_most, exact_times, least_times, range_times, repeated, quantified_pattern}
+use Rattle.strkw_ecma.specs.Patterns.{Times, any_times, some_times, once_at_most, exact_times, least_times, range_times, repetition, quantified_pattern}
 use Rattle.strkw_ecma.specs.machine.Marks.{is_clean}
-use Rattle.strkw_ecma.specs.machine.Needed.{only_character, later, common, is_sure, needed}
+use Rattle.strkw_ecma.specs.machine.Needed.{only_character, later, common, is_sure, needed_char}
 use Rattle.strkw_ecma.specs.machine.Search.{search_from}
 use Rattle.strkw_ecma.specs.declared.tree.CharSet.{CharSet}
 use Rattle.strkw_ecma.specs.declared.tree.CharSet.TheVariants.{Range, Property}
@@ -59,12 +59,12 @@ common_is (Some d) (Some f) c e =
     (ap Some is.1, ap Some (sym both ∙ is.1))
 
 -- what is needed is a character of ASCII
-pub needed_ascii : (p : Pattern) (c : ℕ) → needed p ≡ Some c → c < 128
+pub needed_ascii : (p : Pattern) (c : ℕ) → needed_char p ≡ Some c → c < 128
 needed_ascii empty c e = absurd (none-some c e)
 needed_ascii (class m n rs) c e = (class_right n rs c e).0
 needed_ascii (look l) c e = absurd (none-some c e)
-needed_ascii (cat p q) c e = ⊎_elim (needed_ascii q c) (needed_ascii p c) (later_is (needed p) (needed q) c e)
-needed_ascii (alt p q) c e = needed_ascii p c (common_is (needed p) (needed q) c e).0
+needed_ascii (cat p q) c e = ⊎_elim (needed_ascii q c) (needed_ascii p c) (later_is (needed_char p) (needed_char q) c e)
+needed_ascii (alt p q) c e = needed_ascii p c (common_is (needed_char p) (needed_char q) c e).0
 needed_ascii (star p) c e = absurd (none-some c e)
 needed_ascii (plus p) c e = needed_ascii p c e
 needed_ascii (lookbehind n p) c e = absurd (none-some c e)
@@ -76,7 +76,7 @@ module _ (text : List ℕ) (c : ℕ) where
   StandsIn i j = (k : ℕ) × (i ≤ k) × (k < j) × (slice_get text k ≡ Some c)
 
   -- so it does where a match reads that needs it
-  pub needed_read : (p : Pattern) (i j : ℕ) → needed p ≡ Some c → Matches text p i j → StandsIn i j
+  pub needed_read : (p : Pattern) (i j : ℕ) → needed_char p ≡ Some c → Matches text p i j → StandsIn i j
   needed_read empty i j e m = absurd (none-some c e)
   needed_read (class m n rs) i j e (d, there, has, next) =
       (i, omega arith, omega (arith, next), there ∙ ap Some ((class_right n rs c e).1 d has))
@@ -84,9 +84,9 @@ module _ (text : List ℕ) (c : ℕ) where
   needed_read (cat p q) i j e (l, m, n) =
       ⊎_elim (λ f. let r = needed_read q l j f n in (r.0, omega (arith, r.1, forwards text p i l m), r.2, r.3))
       (λ f. let r = needed_read p i l f m in (r.0, r.1, omega (arith, r.2, forwards text q l j n), r.3))
-      (later_is (needed p) (needed q) c e)
-  needed_read (alt p q) i j e (inl m) = needed_read p i j (common_is (needed p) (needed q) c e).0 m
-  needed_read (alt p q) i j e (inr m) = needed_read q i j (common_is (needed p) (needed q) c e).1 m
+      (later_is (needed_char p) (needed_char q) c e)
+  needed_read (alt p q) i j e (inl m) = needed_read p i j (common_is (needed_char p) (needed_char q) c e).0 m
+  needed_read (alt p q) i j e (inr m) = needed_read q i j (common_is (needed_char p) (needed_char q) c e).1 m
   needed_read (star p) i j e m = absurd (none-some c e)
   needed_read (plus p) i j e (l, m, s) =
       let r = needed_read p i l e m in
@@ -113,7 +113,7 @@ without_along c low true text w = without_turned c low text w
 
 -- a pattern without marks, whose lookaheads are told
 -- is not found from either end of a text without the character that it needs
-pub ruled_out : (p : Pattern) (c : ℕ) (text : List ℕ) (b : Bool) → is_clean p ≡ true → are_told p ≡ true → needed p ≡ Some c → Without c text
+pub ruled_out : (p : Pattern) (c : ℕ) (text : List ℕ) (b : Bool) → is_clean p ≡ true → are_told p ≡ true → needed_char p ≡ Some c → Without c text
     → search_from p None (along b text) ≡ false
 ruled_out p c text b clean told e w = false_from_ne_true _ (λ found.
     let at = (search_is_exact p (along b text) clean told).0 found in
@@ -135,12 +135,12 @@ later_same None = refl
 later_same (Some c) = refl
 
 -- copies need what one needs
-copies_need : (n : ℕ) (p : Pattern) → needed (repeated (suc n) p) ≡ needed p
+copies_need : (n : ℕ) (p : Pattern) → needed_char (repetition (suc n) p) ≡ needed_char p
 copies_need zero p = refl
-copies_need (suc n) p = ap (later (needed p)) (copies_need n p) ∙ later_same (needed p)
+copies_need (suc n) p = ap (later (needed_char p)) (copies_need n p) ∙ later_same (needed_char p)
 
 -- those that may be missing need nothing
-options_need : (n : ℕ) (p : Pattern) → needed (repeated n (alt empty p)) ≡ None
+options_need : (n : ℕ) (p : Pattern) → needed_char (repetition n (alt empty p)) ≡ None
 options_need zero p = refl
 options_need (suc n) p = ap (later None) (options_need n p)
 
@@ -149,15 +149,15 @@ some_copy : (n : ℕ) → nat_lt 0 (suc n) ≡ true
 some_copy n = grind (arith, nat_tests)
 
 -- so what is repeated needs what it repeats, where it takes a copy at least
-pub times_need : (t : Times) (p : Pattern) → (if is_sure t then needed p else None) ≡ needed (quantified_pattern t p)
+pub times_need : (t : Times) (p : Pattern) → (if is_sure t then needed_char p else None) ≡ needed_char (quantified_pattern t p)
 times_need any_times p = refl
 times_need some_times p = refl
 times_need once_at_most p = refl
 times_need (exact_times zero) p = refl
-times_need (exact_times (suc n)) p = ap (λ (b : Bool). if b then needed p else None) (some_copy n) ∙ sym (copies_need n p)
+times_need (exact_times (suc n)) p = ap (λ (b : Bool). if b then needed_char p else None) (some_copy n) ∙ sym (copies_need n p)
 times_need (least_times zero) p = refl
-times_need (least_times (suc n)) p = ap (λ (b : Bool). if b then needed p else None) (some_copy n) ∙ sym (copies_need n p)
+times_need (least_times (suc n)) p = ap (λ (b : Bool). if b then needed_char p else None) (some_copy n) ∙ sym (copies_need n p)
 times_need (range_times zero m) p = sym (ap (later None) (options_need (m - zero) p))
 times_need (range_times (suc n) m) p =
-    ap (λ (b : Bool). if b then needed p else None) (some_copy n)
-    ∙ sym (ap (later (needed (repeated (suc n) p))) (options_need (m - suc n) p) ∙ copies_need n p)
+    ap (λ (b : Bool). if b then needed_char p else None) (some_copy n)
+    ∙ sym (ap (later (needed_char (repetition (suc n) p))) (options_need (m - suc n) p) ∙ copies_need n p)

@@ -4,32 +4,30 @@ use Rattle.std.proofs.Common.{None, if◌then◌else◌, option_map, nat_lt, nat
 use Rattle.std.specs.Prelude.{option_and_then, is_some}
 use Rattle.std.proofs.lemmas.List.{length-map, at_drop_more, at_drop_all}
 use Rattle.std.proofs.lemmas.Bool.{le-leb, lt-leb}
-use Rattle.strkw_ecma.specs.Tree.{Pattern, empty, class, cat}
+use Rattle.strkw_ecma.specs.Tree.{Pattern, empty, cat}
 use Rattle.std.specs.Str.{byte}
 use Rattle.strkw_ecma.specs.Escapes.{Escape, itself, control, set, boundary, no_boundary, null, letter, hexadecimal, unicode, property, no_property, unknown}
 use Rattle.strkw_ecma.specs.Escapes.{escape}
 use Rattle.strkw_ecma.specs.Codes.{null_code}
-use Rattle.strkw_ecma.specs.Properties.{Expression, property_of}
+use Rattle.strkw_ecma.specs.Properties.{property_of}
 use Rattle.strkw_ecma.specs.machine.PropertyReading.{PropertyRead, no_property_read, property_goes, property_ends, property_next}
-use Rattle.strkw_ecma.specs.declared.properties.Property.{Property}
 use Rattle.strkw_ecma.specs.declared.tree.CharSet.{CharSet}
-use Rattle.strkw_ecma.specs.declared.tree.CharSet.TheVariants.{Property as PropertySet}
 use Rattle.strkw_ecma.specs.Names.{NameChar, verbatim, by_code, name_char_value, name_value, may_follow, Extension, uncaptured, name_opening, no_extension}
 use Rattle.strkw_ecma.specs.Names.{look_equals, look_negation, extension, NameToken, name_end, name_backslash, name_equals, name_negation}
 use Rattle.strkw_ecma.specs.Names.{name_character, name_token, are_distinct}
 use Rattle.strkw_ecma.specs.Classes.{ClassToken, closing_bracket, class_escaper, dash, class_char, class_token, class_escape, ClassAtom, class_plain}
-use Rattle.strkw_ecma.specs.Classes.{hyphen, class_escaped, class_control, class_set, backspace, class_coded, class_property, Ranges, no_ranges, item, set_item}
-use Rattle.strkw_ecma.specs.Classes.{property_set, range, range_list, sets_of}
+use Rattle.strkw_ecma.specs.Classes.{hyphen, class_escaped, class_control, class_set, backspace, class_coded, class_property, Ranges, no_ranges, item}
+use Rattle.strkw_ecma.specs.Classes.{range, range_list, sets_of}
 use Rattle.strkw_ecma.specs.Syntax.{Disjunction, Alternative, Term, at_start, at_end, at_boundary, at_no_boundary, Quantifier, exactly, at_least, from_to}
 use Rattle.strkw_ecma.specs.Syntax.{zero_or_more, one_or_more, capturing, plain_group, named}
-use Rattle.strkw_ecma.specs.Syntax.{Enclosing, of_group, of_lookbehind, with_own_name, Atom, plain}
+use Rattle.strkw_ecma.specs.Syntax.{Enclosing, of_group, of_lookbehind, Atom, plain}
 use Rattle.strkw_ecma.specs.Syntax.{escaped}
 use Rattle.strkw_ecma.specs.Syntax.{control_escape, set_escape, coded, property_escape, dot, Token}
 use Rattle.strkw_ecma.specs.Syntax.{bar, asterisk, plus, question, caret, dollar}
 use Rattle.strkw_ecma.specs.Syntax.{opening as opening_token}
 use Rattle.strkw_ecma.specs.Syntax.{closing, point, backslash, bracket, brace, character, other, token, of_lookahead, max_nesting, max_length}
 use Rattle.strkw_ecma.specs.Patterns.{pattern, alternative_pattern, term_pattern, atom_pattern, times, copies, quantified_pattern}
-use Rattle.strkw_ecma.specs.Numbers.{number, number_of, max_count, CountToken, digit, comma, closing_brace, no_count, count_token}
+use Rattle.strkw_ecma.specs.Numbers.{number, max_count, CountToken, digit, comma, closing_brace, no_count, count_token}
 use Rattle.strkw_ecma.specs.Size.{steps, max_term_steps, max_steps}
 use Rattle.strkw_ecma.specs.Lookahead.{is_apart}
 use Rattle.strkw_ecma.specs.Front.{parts, steps_of_parts}
@@ -39,12 +37,16 @@ use Rattle.strkw_ecma.specs.machine.CodeReading.{Coded, fails, goes, makes, codi
 use Rattle.strkw_ecma.specs.machine.Makers.{trees, patterns, value_if, enclosed_tree, enclosed_pattern}
 use Rattle.strkw_ecma.specs.machine.Reading.{Open, Outer, Level, Last, none, atom, counted, Pending, fresh, one, dashed, Class, Count, low, high, Mode, between}
 use Rattle.strkw_ecma.specs.machine.Reading.{escaping, opening, extending, class_opened, counting, coding, in_class, class_escaping, class_coding, in_property}
-use Rattle.strkw_ecma.specs.machine.Reading.{in_class_property, naming, name_escaping, name_coding, is_between, State, with_mode, when, all_terms, joined}
-use Rattle.strkw_ecma.specs.machine.Reading.{whole_level, level_so_far, new_level, with_atom, with_term, with_bar, with_open, opened_within, with_part, closed_in}
-use Rattle.strkw_ecma.specs.machine.Reading.{with_quantifier, with_question, on_token, on_escape, on_coding, on_property, on_group, on_extension, ranged, took}
-use Rattle.strkw_ecma.specs.machine.Reading.{took_dash, whole_class, within, on_class_token, on_class_escape, on_class_coding, on_class_property, on_bracket}
+use Rattle.strkw_ecma.specs.machine.Reading.{in_class_property, naming, name_escaping, name_coding, is_between, State, with_mode, when, all_terms}
+use Rattle.strkw_ecma.specs.machine.Reading.{join_alternatives}
+use Rattle.strkw_ecma.specs.machine.Reading.{whole_level, level_so_far, new_level, with_atom, with_term, with_bar, with_open, open_within, with_part, close_in}
+use Rattle.strkw_ecma.specs.machine.Reading.{with_quantifier, with_question, on_token, on_escape, on_coding, on_property, on_group, on_extension, take_range}
+use Rattle.strkw_ecma.specs.machine.Reading.{take_atom}
+use Rattle.strkw_ecma.specs.machine.Reading.{take_dash, whole_class, with_class, on_class_token, on_class_escape, on_class_coding, on_class_property}
+use Rattle.strkw_ecma.specs.machine.Reading.{on_bracket}
 use Rattle.strkw_ecma.specs.machine.Reading.{on_name_char, on_name_end, on_look, on_naming, on_name_escape, on_name_coding, with_count, with_digit, on_low}
-use Rattle.strkw_ecma.specs.machine.Reading.{on_range_end, on_high, on_count, next_in, next, closes, at_close, read_from, initial, read_short, small, read_pattern}
+use Rattle.strkw_ecma.specs.machine.Reading.{on_range_end, on_high, on_count, next_in, next, closes, at_close, read_from, initial, read_short, keep_small}
+use Rattle.strkw_ecma.specs.machine.Reading.{read_pattern}
 use Rattle.strkw_ecma.specs.declared.reader.Enclosing.{Enclosing as CodeEnclosing}
 use Rattle.strkw_ecma.specs.declared.reader.Enclosing.TheVariants as code_enclosing
 use Rattle.strkw_ecma.proofs.BetweenTerms.{standing, class_so_far}
@@ -120,13 +122,14 @@ ended_image a (atom x) = refl
 ended_image a (counted (x, q)) = refl
 
 -- an alternative joined to those before has the pattern that is made of theirs and its
-joined_image : (e : Option Disjunction) (a : Alternative) → pattern (joined trees e a) ≡ joined patterns (option_map pattern e) (alternative_pattern a)
+joined_image : (e : Option Disjunction) (a : Alternative)
+    → pattern (join_alternatives trees e a) ≡ join_alternatives patterns (option_map pattern e) (alternative_pattern a)
 joined_image None a = refl
 joined_image (Some d) a = refl
 
 -- and so has a whole level
 level_image : (l : Level trees) (x : Last trees) → pattern (whole_level l x) ≡ whole_level (side l) (last_image x)
-level_image l x = joined_image l.earlier (all_terms l.current x) ∙ ap (joined patterns (option_map pattern l.earlier)) (ended_image l.current x)
+level_image l x = joined_image l.earlier (all_terms l.current x) ∙ ap (join_alternatives patterns (option_map pattern l.earlier)) (ended_image l.current x)
 
 -- a test may be asked before the image is taken or behind it
 when_image : (b : Bool) (o : Option (State trees)) → option_map image (when b o) ≡ when b (option_map image o)
@@ -185,13 +188,14 @@ module _ (outer : Outer trees) (l : Level trees) (x : Last trees) where
 
   -- and on one that opens where it is not nested too deep
   within_opened : (g : Enclosing)
-      → option_map image (opened_within (standing outer l x) g) ≡ opened_within (image (standing outer l x)) (enclosing_image g)
+      → option_map image (open_within (standing outer l x) g) ≡ open_within (image (standing outer l x)) (enclosing_image g)
   within_opened g =
       opened_image g _
       ∙ ap (λ (n : ℕ). with_open (image (standing outer l x)) (enclosing_image g) (nat_lt n max_nesting)) (sym (length-map outer.groups around))
 
   -- and on the state in a class, where there is a class
-  within_image : (o : Option (Class trees)) → option_map image (within (standing outer l x) o) ≡ within (image (standing outer l x)) (option_map class_image o)
+  within_image : (o : Option (Class trees))
+      → option_map image (with_class (standing outer l x) o) ≡ with_class (image (standing outer l x)) (option_map class_image o)
   within_image None = refl
   within_image (Some k) = refl
 
@@ -246,7 +250,7 @@ enclosed_image outer l (of_lookahead n) d = refl
 
 -- and so where something is open
 closed_image : (os : List (Open trees)) (ns : List (List ℕ)) (d : Disjunction)
-    → option_map image (closed_in os ns d) ≡ closed_in (map around os) ns (pattern d)
+    → option_map image (close_in os ns d) ≡ close_in (map around os) ns (pattern d)
 closed_image [] ns d = refl
 closed_image (o ∷ os) ns d =
     ap Some (enclosed_image (record { groups = os; names = ns }) o.level o.enclosing d)
@@ -261,7 +265,7 @@ token_image outer l x c question = question_image outer l x
 token_image outer l x c caret = ap Some (term_image outer l x at_start)
 token_image outer l x c dollar = ap Some (term_image outer l x at_end)
 token_image outer l x c opening_token = refl
-token_image outer l x c closing = closed_image outer.groups outer.names _ ∙ ap (closed_in (map around outer.groups) outer.names) (level_image l x)
+token_image outer l x c closing = closed_image outer.groups outer.names _ ∙ ap (close_in (map around outer.groups) outer.names) (level_image l x)
 token_image outer l x c point = ap Some (atom_image outer l x dot)
 token_image outer l x c backslash = refl
 token_image outer l x c bracket = refl
@@ -324,13 +328,15 @@ module _ (outer : Outer trees) (l : Level trees) (x : Last trees) where
       (name_push n y)
 
   -- and on the end of a name
-  name_end_image : (n : List NameChar) → option_map image (on_name_end (standing outer l x) n (name_value n)) ≡ on_name_end (image (standing outer l x)) (name_value n) (name_value n)
+  name_end_image : (n : List NameChar)
+      → option_map image (on_name_end (standing outer l x) n (name_value n)) ≡ on_name_end (image (standing outer l x)) (name_value n) (name_value n)
   name_end_image [] = refl
   name_end_image (y ∷ n) =
       within_opened (record { groups = outer.groups; names = outer.names ++ name_value (y ∷ n) ∷ [] }) l x (of_group (named (y ∷ n)))
 
   -- and on the beginning of a lookbehind
-  look_image : (n : List NameChar) (b : Bool) → option_map image (on_look (standing outer l x) (name_value n) b) ≡ on_look (image (standing outer l x)) (name_value n) b
+  look_image : (n : List NameChar) (b : Bool)
+      → option_map image (on_look (standing outer l x) (name_value n) b) ≡ on_look (image (standing outer l x)) (name_value n) b
   look_image [] b = within_opened outer l x (of_lookbehind b)
   look_image (y ∷ n) b = refl
 
@@ -430,21 +436,21 @@ module _ (outer : Outer trees) (l : Level trees) (x : Last trees) where
 
 -- the two readers agree on a class with a range of two atoms, where these bound one
 ranged_image : (n : Bool) (r : Ranges) (w y : ClassAtom) (o : Option CharSet) → o ≡ range (item w) (item y)
-    → option_map class_image (ranged n r w y o) ≡ ranged n (sets_of r) (item w) (item y) o
+    → option_map class_image (take_range n r w y o) ≡ take_range n (sets_of r) (item w) (item y) o
 ranged_image n r w y None e = refl
 ranged_image n r w y (Some s) e =
     ap (λ (o : Option CharSet). Some (class_so_far n (sets_of r ++ range_list o) fresh)) (sym e)
 
 -- and on a class with one more atom
 took_image : (n : Bool) (r : Ranges) (p : Pending trees) (y : ClassAtom)
-    → option_map class_image (took n r p y) ≡ took n (sets_of r) (pending_image p) (item y)
+    → option_map class_image (take_atom n r p y) ≡ take_atom n (sets_of r) (pending_image p) (item y)
 took_image n r fresh y = refl
 took_image n r (one w) y = refl
 took_image n r (dashed w) y = ranged_image n r w y _ refl
 
 -- and on a class with a `-` more
 dash_image : (n : Bool) (r : Ranges) (p : Pending trees)
-    → option_map class_image (took_dash n r p) ≡ took_dash n (sets_of r) (pending_image p)
+    → option_map class_image (take_dash n r p) ≡ take_dash n (sets_of r) (pending_image p)
 dash_image n r fresh = refl
 dash_image n r (one w) = refl
 dash_image n r (dashed w) = took_image n r (dashed w) hyphen
@@ -459,10 +465,10 @@ read_class_image n r (dashed w) = refl
 module _ (outer : Outer trees) (l : Level trees) (x : Last trees) where
   -- the two readers agree on the state in a class with one more atom
   taken_image : (k : Class trees) (y : ClassAtom)
-      → option_map image (within (standing outer l x) (took k.negated k.ranges k.pending y))
-      ≡ within (image (standing outer l x)) (took k.negated (sets_of k.ranges) (pending_image k.pending) (item y))
+      → option_map image (with_class (standing outer l x) (take_atom k.negated k.ranges k.pending y))
+      ≡ with_class (image (standing outer l x)) (take_atom k.negated (sets_of k.ranges) (pending_image k.pending) (item y))
   taken_image k y =
-      within_image outer l x _ ∙ ap (within (image (standing outer l x))) (took_image k.negated k.ranges k.pending y)
+      within_image outer l x _ ∙ ap (with_class (image (standing outer l x))) (took_image k.negated k.ranges k.pending y)
 
   -- and on a character in a class, whatever it is there
   class_token_image : (k : Class trees) (c : ℕ) (t : ClassToken)
@@ -473,7 +479,7 @@ module _ (outer : Outer trees) (l : Level trees) (x : Last trees) where
       ∙ ap (λ (p : Pattern). Some (with_atom (image (standing outer l x)) p)) (read_class_image k.negated k.ranges k.pending)
   class_token_image k c class_escaper = refl
   class_token_image k c dash =
-      within_image outer l x _ ∙ ap (within (image (standing outer l x))) (dash_image k.negated k.ranges k.pending)
+      within_image outer l x _ ∙ ap (with_class (image (standing outer l x))) (dash_image k.negated k.ranges k.pending)
   class_token_image k c class_char = taken_image k (class_plain c)
 
   -- and on the one behind a backslash in a class
@@ -557,7 +563,8 @@ none_closes None h = refl
 none_closes (Some p) h = absurd (true≢false h)
 
 -- where there is a pattern at the end, it is that of the whole level
-pub closes_with : (os : List (Open patterns)) (l : Level patterns) (x : Last patterns) (b : Bool) → is_some (closes os l x b) ≡ true → Some (whole_level l x) ≡ closes os l x b
+pub closes_with : (os : List (Open patterns)) (l : Level patterns) (x : Last patterns) (b : Bool) → is_some (closes os l x b) ≡ true
+    → Some (whole_level l x) ≡ closes os l x b
 closes_with [] l x true h = refl
 closes_with [] l x false h = absurd (true≢false (sym h))
 closes_with (o ∷ os) l x b h = absurd (true≢false (sym h))
@@ -639,17 +646,17 @@ whole s text k h short w =
 
 -- what is not too large
 -- a tree is kept as such exactly where its pattern is
-small_image : (o : Option Disjunction) → option_map pattern (small trees o) ≡ small patterns (option_map pattern o)
+small_image : (o : Option Disjunction) → option_map pattern (keep_small trees o) ≡ keep_small patterns (option_map pattern o)
 small_image None = refl
 small_image (Some d) = tree_image (nat_le (steps_of_parts (parts (pattern d))) max_steps) (Some d)
 
 -- where no digit stands behind `\0`, the pattern of the text is what is read, unless that is too large
 pub read_whole : (text : List ℕ) (o p : Option Pattern) → true ≡ is_apart text → o ≡ option_map pattern (read_short trees text)
-    → p ≡ small patterns o → p ≡ option_map pattern (read_pattern trees text)
+    → p ≡ keep_small patterns o → p ≡ option_map pattern (read_pattern trees text)
 read_whole text o p a e f =
-    f ∙ ap (small patterns) e ∙ sym (small_image (read_short trees text))
-    ∙ ap (λ (b : Bool). option_map pattern (if b then small trees (read_short trees text) else None)) a
+    f ∙ ap (keep_small patterns) e ∙ sym (small_image (read_short trees text))
+    ∙ ap (λ (b : Bool). option_map pattern (if b then keep_small trees (read_short trees text) else None)) a
 
 -- a text with a digit behind some `\0` has no pattern
 pub not_apart : (text : List ℕ) → false ≡ is_apart text → None ≡ option_map pattern (read_pattern trees text)
-not_apart text a = ap (λ (b : Bool). option_map pattern (if b then small trees (read_short trees text) else None)) a
+not_apart text a = ap (λ (b : Bool). option_map pattern (if b then keep_small trees (read_short trees text) else None)) a

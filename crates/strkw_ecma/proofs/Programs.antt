@@ -9,7 +9,7 @@ use Rattle.strkw_ecma.specs.machine.Marks.{reads, sees, leaves, step, marks_of}
 use Rattle.strkw_ecma.specs.Program.{Instruction, read, fork, other, join, star_begin, star_end, plus_begin, plus_end, look_begin, look_end}
 use Rattle.strkw_ecma.specs.Program.{if_class, if_option, glance, program, alternatives}
 use Rattle.strkw_ecma.proofs.Steps.{plus_leaves}
-use Rattle.strkw_ecma.specs.machine.Walk.{Asked, Walked, top, below, back_over, asked, followed, walked}
+use Rattle.strkw_ecma.specs.machine.Walk.{Asked, Walked, first_or_false, below, back_over, asked, followed, walked}
 
 -- a proof for a class and one for all patterns, of what is chosen by the first
 pub by_class : {A : Type 0} (P : A → Type 0) (p : Pattern) (f : Bool → List CharSet → A) (x : A)
@@ -130,7 +130,7 @@ module _ (b a : Option ℕ) where
 
   -- what is known before one alternative of several, where e is known behind the last, and acc of those behind it
   pub record IsBeside (p : Pattern) (e acc : Bool) (around : List Bool) (s t : Asked) : Type 0 where
-    pub ends : (top t.around || t.ends) ≡ (acc || (e && passes b a p))
+    pub ends : (first_or_false t.around || t.ends) ≡ (acc || (e && passes b a p))
     pub around_is : below t.around ≡ e ∷ around
     pub goes_on : t.goes_on ≡ (s.goes_on || (e && leaves b a p false))
     pub again : t.again ≡ agains b a p ++ s.again
@@ -178,7 +178,7 @@ module _ (b a : Option ℕ) where
   asked_star p is ms known =
       let s = asked b a is ms in
       ap (λ (js : List Instruction). asked b a (star_begin ∷ js) (marks_of p ++ ms)) (append_assoc (program p) (star_end ∷ []) is)
-      ∙ ap (back_over b a star_begin (top (marks_of p ++ ms))) known
+      ∙ ap (back_over b a star_begin (first_or_false (marks_of p ++ ms))) known
       ∙ same_asked _ _ (ends s.ends) refl refl refl
     where
       -- beside a truth value, one that holds changes nothing
@@ -198,7 +198,7 @@ module _ (b a : Option ℕ) where
   asked_plus p is ms known =
       let s = asked b a is ms in
       ap (λ (js : List Instruction). asked b a (plus_begin ∷ js) (marks_of p ++ ms)) (append_assoc (program p) (plus_end ∷ []) is)
-      ∙ ap (back_over b a plus_begin (top (marks_of p ++ ms))) known
+      ∙ ap (back_over b a plus_begin (first_or_false (marks_of p ++ ms))) known
       ∙ same_asked _ _ refl (ap (λ (y : Bool). s.goes_on || (s.ends && y)) (plus_leaves (sees b a) b a p false)) refl refl
 
   -- of a pattern that stands alone, and of one that stands among alternatives
@@ -260,7 +260,8 @@ module _ (b a : Option ℕ) where
       let s = asked b a is ms in
       let known = second (join ∷ is) ms in
       let beside = first (other ∷ (program q ++ (join ∷ is))) (marks_of q ++ ms) s.ends (false || (s.ends && passes b a q)) s.around
-      (ap (λ (t : Asked). top (below t.around)) known) (ap (λ (t : Asked). (top t.around || t.ends) ∷ top (below t.around) ∷ below (below t.around)) known) in
+      (ap (λ (t : Asked). first_or_false (below t.around)) known)
+      (ap (λ (t : Asked). (first_or_false t.around || t.ends) ∷ first_or_false (below t.around) ∷ below (below t.around)) known) in
       rw (
         append_assoc (alternatives p) (other ∷ (program q ++ (join ∷ []))) is,
         append_assoc (program q) (join ∷ []) is,
@@ -293,11 +294,11 @@ module _ (b a : Option ℕ) where
       let s = asked b a is ms in
       let known = second is ms in
       side_by_side p q e acc around s (asked b a (other ∷ (program q ++ is)) (marks_of q ++ ms)) _
-      (ap (back_over b a other (top (marks_of q ++ ms))) known ∙ rw (is_around, ends) refl)
+      (ap (back_over b a other (first_or_false (marks_of q ++ ms))) known ∙ rw (is_around, ends) refl)
       (rw (append_assoc (alternatives p) (other ∷ program q) is, append_assoc (marks_of p) (marks_of q) ms)
       (first (other ∷ (program q ++ is)) (marks_of q ++ ms) e (acc || (e && passes b a q)) around
-      (ap (λ (t : Asked). top (below t.around)) known ∙ rw is_around refl)
-      (ap (λ (t : Asked). (top t.around || t.ends) ∷ top (below t.around) ∷ below (below t.around)) known ∙ rw (is_around, ends) refl)))
+      (ap (λ (t : Asked). first_or_false (below t.around)) known ∙ rw is_around refl)
+      (ap (λ (t : Asked). (first_or_false t.around || t.ends) ∷ first_or_false (below t.around) ∷ below (below t.around)) known ∙ rw (is_around, ends) refl)))
 
   -- so it is before any number of rounds, where it is before one
   star_asked : (p : Pattern) → IsAsked p → IsAsked (star p)
@@ -330,7 +331,7 @@ module _ (b a : Option ℕ) where
   behind_asked n p body is ms =
       let s = asked b a is ms in
       ap (λ (js : List Instruction). asked b a (look_begin n ∷ js) (marks_of p ++ ms)) (append_assoc (program p) (look_end n ∷ []) is)
-      ∙ ap (back_over b a (look_begin n) (top (marks_of p ++ ms))) (body (look_end n ∷ is) ms)
+      ∙ ap (back_over b a (look_begin n) (first_or_false (marks_of p ++ ms))) (body (look_end n ∷ is) ms)
       ∙ same_asked _ _ (ap (λ (y : Bool). s.ends && differ n y) (sym (leaves_split p true))) (goes_on s.goes_on s.ends) refl refl
     where
       -- an alternative that cannot hold changes nothing
@@ -355,7 +356,7 @@ module _ (b a : Option ℕ) where
       }
   ahead_asked_by n p is ms known =
       ap (λ (js : List Instruction). asked b a (look_begin n ∷ js) ms) (append_assoc (glance p) (look_end n ∷ []) is)
-      ∙ ap (back_over b a (look_begin n) (top ms)) known
+      ∙ ap (back_over b a (look_begin n) (first_or_false ms)) known
 
   -- what is known before what a lookahead looks for, by what is known behind it
   abbrev before_glance : Pattern → Asked → Asked
@@ -385,8 +386,8 @@ module _ (b a : Option ℕ) where
       let s = asked b a is ms in
       ap (λ (js : List Instruction). asked b a (fork ∷ js) ms) (append_assoc (glance p) (other ∷ (glance q ++ (join ∷ []))) is)
       ∙ ap (λ (js : List Instruction). asked b a (fork ∷ (glance p ++ (other ∷ js))) ms) (append_assoc (glance q) (join ∷ []) is)
-      ∙ ap (back_over b a fork (top ms)) (glance_asked p (other ∷ (glance q ++ (join ∷ is))) ms)
-      ∙ ap (λ (t : Asked). back_over b a fork (top ms) (before_glance p (back_over b a other (top ms) t))) (glance_asked q (join ∷ is) ms)
+      ∙ ap (back_over b a fork (first_or_false ms)) (glance_asked p (other ∷ (glance q ++ (join ∷ is))) ms)
+      ∙ ap (λ (t : Asked). back_over b a fork (first_or_false ms) (before_glance p (back_over b a other (first_or_false ms) t))) (glance_asked q (join ∷ is) ms)
       ∙ same_asked _ _ (ends s.ends (sees b a p) (sees b a q)) refl refl refl
     where
       -- what is asked of each of two alternatives may be asked once of both

@@ -3,12 +3,12 @@ use Rattle.std.proofs.Common.{◌≡◌, ℕ, zero, suc, ◌+◌, ◌-◌, max, 
 use Rattle.std.proofs.Common.{slice_get, refl, sym, ap, subst, ◌∙◌, append-nil, true≢false, is_some, ◌==◌, arith}
 use Rattle.std.proofs.lemmas.List.{append_assoc}
 use Rattle.strkw_ecma.specs.Tree.{start, end, boundary, no_boundary, Pattern, empty, class, look, cat, alt, star, plus, lookbehind, lookahead}
-use Rattle.strkw_ecma.specs.Mirror.{mirror, facing}
-use Rattle.strkw_ecma.specs.Patterns.{Times, any_times, some_times, once_at_most, exact_times, least_times, range_times, repeated, quantified_pattern}
-use Rattle.strkw_ecma.specs.Program.{is_empty, copied}
+use Rattle.strkw_ecma.specs.Mirror.{mirror, mirror_if}
+use Rattle.strkw_ecma.specs.Patterns.{Times, any_times, some_times, once_at_most, exact_times, least_times, range_times, repetition, quantified_pattern}
+use Rattle.strkw_ecma.specs.Program.{is_empty, concat_copies}
 use Rattle.strkw_ecma.specs.machine.Asides.{Quest, IsToldAs, AreToldAs, IsAside, AreAsides, IsSmall, AreSmall, Puts, PutsAside, PutsLook, SetsAside, TellsAside}
 use Rattle.strkw_ecma.specs.machine.Passes.{Alike}
-use Rattle.strkw_ecma.specs.machine.Marks.{unmarked}
+use Rattle.strkw_ecma.specs.machine.Marks.{is_unmarked}
 use Rattle.strkw_ecma.specs.machine.Slots.{slot, aside, spots, all_copies}
 use Rattle.strkw_ecma.specs.machine.Shape.{is_never}
 use Rattle.strkw_ecma.specs.machine.Seeking.{Seeking}
@@ -54,43 +54,43 @@ told_append fs b (t ∷ ts) us (s ∷ ss) rs u w = (u.0, told_append fs b ts us 
 
 -- and so often
 told_copies : (n : ℕ) (fs : List Quest) (b : Bool) (ts : List (Option ℕ)) (ss : List (Option Pattern)) → AreToldAs fs b ts ss
-    → AreToldAs fs b (copied n ts) (copied n ss)
+    → AreToldAs fs b (concat_copies n ts) (concat_copies n ss)
 told_copies zero fs b ts ss u = tt
-told_copies (suc n) fs b ts ss u = told_append fs b ts (copied n ts) ss (copied n ss) u (told_copies n fs b ts ss u)
+told_copies (suc n) fs b ts ss u = told_append fs b ts (concat_copies n ts) ss (concat_copies n ss) u (told_copies n fs b ts ss u)
 
 -- spots of what is repeated
-copies_spots : (n : ℕ) (p : Pattern) → spots (repeated n p) ≡ copied n (spots p)
+copies_spots : (n : ℕ) (p : Pattern) → spots (repetition n p) ≡ concat_copies n (spots p)
 copies_spots zero p = refl
 copies_spots (suc n) p = ap (λ (ss : List (Option Pattern)). spots p ++ ss) (copies_spots n p)
 
 -- copies and more copies
-copied_more : {A : Type 0} (n m : ℕ) (xs : List A) → copied n xs ++ copied m xs ≡ copied (n + m) xs
-copied_more zero m xs = ap (λ (k : ℕ). copied k xs) (omega arith)
+copied_more : {A : Type 0} (n m : ℕ) (xs : List A) → concat_copies n xs ++ concat_copies m xs ≡ concat_copies (n + m) xs
+copied_more zero m xs = ap (λ (k : ℕ). concat_copies k xs) (omega arith)
 copied_more (suc n) m xs =
     let next : suc (n + m) ≡ suc n + m = omega arith in
-    append_assoc xs (copied n xs) (copied m xs) ∙ ap (λ ys. xs ++ ys) (copied_more n m xs) ∙ ap (λ (k : ℕ). copied k xs) next
+    append_assoc xs (concat_copies n xs) (concat_copies m xs) ∙ ap (λ ys. xs ++ ys) (copied_more n m xs) ∙ ap (λ (k : ℕ). concat_copies k xs) next
 
 -- a list is one copy of it
-copied_once : {A : Type 0} (xs : List A) → xs ≡ copied 1 xs
+copied_once : {A : Type 0} (xs : List A) → xs ≡ concat_copies 1 xs
 copied_once xs = sym (append-nil xs)
 
 -- the spots of a pattern with a quantifier are as many copies of its spots as it is copied
-pub times_spots : (t : Times) (p : Pattern) → spots (quantified_pattern t p) ≡ copied (all_copies t) (spots p)
+pub times_spots : (t : Times) (p : Pattern) → spots (quantified_pattern t p) ≡ concat_copies (all_copies t) (spots p)
 times_spots any_times p = copied_once (spots p)
 times_spots some_times p = copied_once (spots p)
 times_spots once_at_most p = copied_once (spots p)
 times_spots (exact_times n) p = copies_spots n p
 times_spots (least_times n) p =
     ap (λ (ss : List (Option Pattern)). ss ++ spots p) (copies_spots n p)
-    ∙ ap (λ (ss : List (Option Pattern)). copied n (spots p) ++ ss) (copied_once (spots p)) ∙ copied_more n 1 (spots p)
+    ∙ ap (λ (ss : List (Option Pattern)). concat_copies n (spots p) ++ ss) (copied_once (spots p)) ∙ copied_more n 1 (spots p)
 times_spots (range_times n m) p =
     let all : n + (m - n) ≡ max n m = omega arith in
-    ap (λ (ss : List (Option Pattern)). ss ++ spots (repeated (m - n) (alt empty p))) (copies_spots n p)
-    ∙ ap (λ (ss : List (Option Pattern)). copied n (spots p) ++ ss) (copies_spots (m - n) (alt empty p)) ∙ copied_more n (m - n) (spots p)
-    ∙ ap (λ (k : ℕ). copied k (spots p)) all
+    ap (λ (ss : List (Option Pattern)). ss ++ spots (repetition (m - n) (alt empty p))) (copies_spots n p)
+    ∙ ap (λ (ss : List (Option Pattern)). concat_copies n (spots p) ++ ss) (copies_spots (m - n) (alt empty p)) ∙ copied_more n (m - n) (spots p)
+    ∙ ap (λ (k : ℕ). concat_copies k (spots p)) all
 
 -- what is repeated, with its lookaheads put aside, is what it repeats with them put aside, repeated
-copies_aside : (n : ℕ) (p : Pattern) → aside (repeated n p) ≡ repeated n (aside p)
+copies_aside : (n : ℕ) (p : Pattern) → aside (repetition n p) ≡ repetition n (aside p)
 copies_aside zero p = refl
 copies_aside (suc n) p = ap (cat (aside p)) (copies_aside n p)
 
@@ -102,8 +102,8 @@ times_aside once_at_most p = refl
 times_aside (exact_times n) p = copies_aside n p
 times_aside (least_times n) p = ap (λ (q : Pattern). cat q (star (aside p))) (copies_aside n p)
 times_aside (range_times n m) p =
-    ap (λ (q : Pattern). cat q (aside (repeated (m - n) (alt empty p)))) (copies_aside n p)
-    ∙ ap (cat (repeated n (aside p))) (copies_aside (m - n) (alt empty p))
+    ap (λ (q : Pattern). cat q (aside (repetition (m - n) (alt empty p)))) (copies_aside n p)
+    ∙ ap (cat (repetition n (aside p))) (copies_aside (m - n) (alt empty p))
 
 -- there are as many asides as quests
 pub same_count : (ps : List Quest) (xs : List Seeking) (gs : List Quest) → AreAsides ps xs gs → length xs ≡ length gs
@@ -167,18 +167,18 @@ mirror_twice (lookbehind n p) = ap (lookbehind n) (mirror_twice p)
 mirror_twice (lookahead n p) = ap (lookahead n) (mirror_twice p)
 
 -- so what is looked for from the other end is the mirror of what is looked for from this one
-pub other_facing : (b : Bool) (p : Pattern) → facing (not b) p ≡ mirror (facing b p)
+pub other_facing : (b : Bool) (p : Pattern) → mirror_if (not b) p ≡ mirror (mirror_if b p)
 other_facing false p = refl
 other_facing true p = sym (mirror_twice p)
 
 -- what is repeated is so from either end
-pub times_facing : (b : Bool) (t : Times) (p made : Pattern) → Alike made (facing b p)
-    → Alike (quantified_pattern t made) (facing b (quantified_pattern t p))
+pub times_facing : (b : Bool) (t : Times) (p made : Pattern) → Alike made (mirror_if b p)
+    → Alike (quantified_pattern t made) (mirror_if b (quantified_pattern t p))
 times_facing false t p made u = alike_times t made p u
 times_facing true t p made u = counted_mirror t p made u
 
 -- and so are alternatives
-pub alt_facing : (b : Bool) (p q : Pattern) → facing b (alt p q) ≡ alt (facing b p) (facing b q)
+pub alt_facing : (b : Bool) (p q : Pattern) → mirror_if b (alt p q) ≡ alt (mirror_if b p) (mirror_if b q)
 alt_facing false p q = refl
 alt_facing true p q = refl
 
@@ -243,8 +243,8 @@ module _ (b : Bool) (fs : List Quest) where
     }
 
   -- of what is repeated, with the numbers of one copy
-  pub times_put : (t : Times) (p o s : Pattern) (xs : List Seeking) (own old new : List (Option ℕ)) → Puts b (facing b p) o fs xs [] own
-      → new ≡ old ++ copied (all_copies t) own → s ≡ quantified_pattern t o → Puts b (facing b (quantified_pattern t p)) s fs xs old new
+  pub times_put : (t : Times) (p o s : Pattern) (xs : List Seeking) (own old new : List (Option ℕ)) → Puts b (mirror_if b p) o fs xs [] own
+      → new ≡ old ++ concat_copies (all_copies t) own → s ≡ quantified_pattern t o → Puts b (mirror_if b (quantified_pattern t p)) s fs xs old new
   times_put t p o s xs own old new one numbers is =
       let told = told_copies (all_copies t) (fs ++ one.added) b one.more (spots one.made) one.told in
       record {
@@ -254,9 +254,9 @@ module _ (b : Bool) (fs : List Quest) where
         made = quantified_pattern t one.made;
         alike = times_facing b t p one.made one.alike;
         slotted = is ∙ ap (quantified_pattern t) one.slotted ∙ sym (times_aside t one.made);
-        more = copied (all_copies t) one.more;
-        numbers = numbers ∙ ap (λ (l : List (Option ℕ)). old ++ copied (all_copies t) l) one.numbers;
-        told = subst (AreToldAs (fs ++ one.added) b (copied (all_copies t) one.more)) (sym (times_spots t one.made)) told;
+        more = concat_copies (all_copies t) one.more;
+        numbers = numbers ∙ ap (λ (l : List (Option ℕ)). old ++ concat_copies (all_copies t) l) one.numbers;
+        told = subst (AreToldAs (fs ++ one.added) b (concat_copies (all_copies t) one.more)) (sym (times_spots t one.made)) told;
       }
 
   -- of a lookbehind
@@ -276,12 +276,12 @@ module _ (b : Bool) (fs : List Quest) where
 
   -- of a lookahead, which gets a number
   pub ahead_put : (n : Bool) (p s : Pattern) (k : ℕ) (xs : List Seeking) (old new : List (Option ℕ)) → TellsAside (not b) p k fs xs
-      → new ≡ old ++ (Some k ∷ []) → s ≡ slot n false → Puts b (lookahead n (facing b p)) s fs xs old new
+      → new ≡ old ++ (Some k ∷ []) → s ≡ slot n false → Puts b (lookahead n (mirror_if b p)) s fs xs old new
   ahead_put n p s k xs old new one numbers is = record {
     added = one.added;
     small = one.small;
     asides = one.asides;
-    made = lookahead n (facing b p);
+    made = lookahead n (mirror_if b p);
     alike = alike_refl _;
     slotted = is;
     more = Some k ∷ [];
@@ -312,7 +312,7 @@ module _ (b : Bool) (fs : List Quest) where
       }
 
   -- and what is left of a pattern is set aside
-  pub set_put : (p o : Pattern) (x : Seeking) (xs : List Seeking) (new : List (Option ℕ)) → Puts b (facing b p) o fs xs [] new → unmarked p ≡ true
+  pub set_put : (p o : Pattern) (x : Seeking) (xs : List Seeking) (new : List (Option ℕ)) → Puts b (mirror_if b p) o fs xs [] new → is_unmarked p ≡ true
       → IsSmall p → x.backward ≡ b → x.pattern ≡ o → x.told ≡ new → SetsAside b p x fs xs
   set_put p o x xs new one bare small way pattern_is told_is = record {
     added = one.added;

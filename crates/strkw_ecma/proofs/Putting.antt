@@ -5,15 +5,15 @@ use Rattle.std.proofs.lemmas.Bool.Decides.{nat_tests}
 use Rattle.std.proofs.Common.{refl, sym, ap, subst, ◌∙◌, append-nil, true≢false, arith}
 use Rattle.strkw_ecma.specs.Tree.{start, end, boundary, no_boundary, Look, Pattern, empty, class, look, cat, alt, star, plus, lookbehind, lookahead}
 use Rattle.strkw_ecma.specs.declared.tree.CharSet.{CharSet}
-use Rattle.strkw_ecma.specs.Mirror.{facing}
-use Rattle.strkw_ecma.specs.Patterns.{Times, any_times, some_times, once_at_most, exact_times, least_times, range_times, repeated, quantified_pattern}
-use Rattle.strkw_ecma.specs.Program.{is_class, is_empty, alternatives, copied}
+use Rattle.strkw_ecma.specs.Mirror.{mirror_if}
+use Rattle.strkw_ecma.specs.Patterns.{Times, any_times, some_times, once_at_most, exact_times, least_times, range_times, repetition, quantified_pattern}
+use Rattle.strkw_ecma.specs.Program.{is_class, is_empty, alternatives, concat_copies}
 use Rattle.strkw_ecma.specs.Size.{steps_of, steps, spread, max_steps}
 use Rattle.strkw_ecma.specs.machine.Asides.{Quest, AreToldAs, AreAsides, IsSmall, Puts, PutsAside, PutsBoth, PutsLook, SetsAside, TellsAside}
-use Rattle.strkw_ecma.specs.machine.Marks.{unmarked}
+use Rattle.strkw_ecma.specs.machine.Marks.{is_unmarked}
 use Rattle.strkw_ecma.specs.machine.Passes.{Alike}
 use Rattle.strkw_ecma.specs.machine.Seeking.{Seeking}
-use Rattle.strkw_ecma.specs.machine.Shape.{is_never, outlined, outlined_node}
+use Rattle.strkw_ecma.specs.machine.Shape.{is_never, outline_pattern, outline_node}
 use Rattle.strkw_ecma.specs.declared.outline.Quantifier.{Quantifier}
 use Rattle.strkw_ecma.specs.declared.outline.Outline.{Outline, Outline-F, roll-Outline, fold-roll-Outline}
 use Rattle.strkw_ecma.specs.declared.outline.Outline.TheFolds.{ind-Outline}
@@ -39,36 +39,40 @@ some_left n = grind (arith, nat_tests)
 
 -- what a pattern asks of its parts
 -- that no class bears a mark
-pub cat_bare : (whole p q : Pattern) → whole ≡ cat p q → unmarked whole ≡ true → (unmarked p ≡ true) × (unmarked q ≡ true)
-cat_bare whole p q is h = let both : (unmarked p && unmarked q) ≡ true = sym (ap unmarked is) ∙ h in (and_left _ _ both, and_right (unmarked p) _ both)
+pub cat_bare : (whole p q : Pattern) → whole ≡ cat p q → is_unmarked whole ≡ true → (is_unmarked p ≡ true) × (is_unmarked q ≡ true)
+cat_bare whole p q is h =
+    let both : (is_unmarked p && is_unmarked q) ≡ true = sym (ap is_unmarked is) ∙ h in
+    (and_left _ _ both, and_right (is_unmarked p) _ both)
 
 -- both alternatives of a pattern without marks have none
-pub alt_bare : (whole p q : Pattern) → whole ≡ alt p q → unmarked whole ≡ true → (unmarked p ≡ true) × (unmarked q ≡ true)
-alt_bare whole p q is h = let both : (unmarked p && unmarked q) ≡ true = sym (ap unmarked is) ∙ h in (and_left _ _ both, and_right (unmarked p) _ both)
+pub alt_bare : (whole p q : Pattern) → whole ≡ alt p q → is_unmarked whole ≡ true → (is_unmarked p ≡ true) × (is_unmarked q ≡ true)
+alt_bare whole p q is h =
+    let both : (is_unmarked p && is_unmarked q) ≡ true = sym (ap is_unmarked is) ∙ h in
+    (and_left _ _ both, and_right (is_unmarked p) _ both)
 
 -- a sequence without marks has none in the other order
-pub turned_bare : (whole p q : Pattern) → whole ≡ cat p q → unmarked whole ≡ true → unmarked (cat q p) ≡ true
+pub turned_bare : (whole p q : Pattern) → whole ≡ cat p q → is_unmarked whole ≡ true → is_unmarked (cat q p) ≡ true
 turned_bare whole p q is h = let both = cat_bare whole p q is h in and_true _ _ both.1 both.0
 
 -- of copies, where there is one, and of what may be missing
-copies_bare : (n : ℕ) (p : Pattern) → (n == 0) ≡ false → unmarked (repeated n p) ≡ true → unmarked p ≡ true
+copies_bare : (n : ℕ) (p : Pattern) → (n == 0) ≡ false → is_unmarked (repetition n p) ≡ true → is_unmarked p ≡ true
 copies_bare zero p some h = absurd (true≢false some)
 copies_bare (suc n) p some h = and_left _ _ h
 
 -- what a quantifier stands behind has no mark where the whole has none, and it is not left out
-times_bare : (t : Times) (p : Pattern) → is_never t ≡ false → unmarked (quantified_pattern t p) ≡ true → unmarked p ≡ true
+times_bare : (t : Times) (p : Pattern) → is_never t ≡ false → is_unmarked (quantified_pattern t p) ≡ true → is_unmarked p ≡ true
 times_bare any_times p some h = h
 times_bare some_times p some h = h
 times_bare once_at_most p some h = h
 times_bare (exact_times n) p some h = copies_bare n p some h
-times_bare (least_times n) p some h = and_right (unmarked (repeated n p)) _ h
+times_bare (least_times n) p some h = and_right (is_unmarked (repetition n p)) _ h
 times_bare (range_times zero zero) p some h = absurd (true≢false some)
-times_bare (range_times zero (suc m)) p some h = copies_bare (suc m - zero) (alt empty p) (some_left m) (and_right (unmarked (repeated zero p)) _ h)
-times_bare (range_times (suc n) m) p some h = and_left _ _ (and_left (unmarked (repeated (suc n) p)) _ h)
+times_bare (range_times zero (suc m)) p some h = copies_bare (suc m - zero) (alt empty p) (some_left m) (and_right (is_unmarked (repetition zero p)) _ h)
+times_bare (range_times (suc n) m) p some h = and_left _ _ (and_left (is_unmarked (repetition (suc n) p)) _ h)
 
 -- the same of a pattern that equals such a whole
-pub repeated_bare : (t : Times) (whole p : Pattern) → whole ≡ quantified_pattern t p → is_never t ≡ false → unmarked whole ≡ true → unmarked p ≡ true
-repeated_bare t whole p is some h = times_bare t p some (sym (ap unmarked is) ∙ h)
+pub repeated_bare : (t : Times) (whole p : Pattern) → whole ≡ quantified_pattern t p → is_never t ≡ false → is_unmarked whole ≡ true → is_unmarked p ≡ true
+repeated_bare t whole p is some h = times_bare t p some (sym (ap is_unmarked is) ∙ h)
 
 -- that it is small
 -- what stands among alternatives takes at most three steps more alone
@@ -123,9 +127,9 @@ plus_most p = by_class (is_class p) refl
     by_class false e = omega (arith, plus_steps p e)
 
 -- a pattern has at most the steps of its copies, where there is one
-copies_most : (n : ℕ) (p : Pattern) → (n == 0) ≡ false → steps p ≤ steps (repeated n p)
+copies_most : (n : ℕ) (p : Pattern) → (n == 0) ≡ false → steps p ≤ steps (repetition n p)
 copies_most zero p some = absurd (true≢false some)
-copies_most (suc n) p some = omega (arith, cat_steps p (repeated n p))
+copies_most (suc n) p some = omega (arith, cat_steps p (repetition n p))
 
 -- a pattern has at most the steps that it has with a quantifier, where it is not left out
 times_most : (t : Times) (p : Pattern) → is_never t ≡ false → steps p ≤ steps (quantified_pattern t p)
@@ -133,13 +137,13 @@ times_most any_times p some = star_most p
 times_most some_times p some = plus_most p
 times_most once_at_most p some = other_most empty p
 times_most (exact_times n) p some = copies_most n p some
-times_most (least_times n) p some = omega (arith, cat_steps (repeated n p) (star p), star_most p)
+times_most (least_times n) p some = omega (arith, cat_steps (repetition n p) (star p), star_most p)
 times_most (range_times zero zero) p some = absurd (true≢false some)
 times_most (range_times zero (suc m)) p some =
-    let both = cat_steps (repeated zero p) (repeated (suc m - zero) (alt empty p)) in
+    let both = cat_steps (repetition zero p) (repetition (suc m - zero) (alt empty p)) in
     omega (arith, both, copies_most (suc m - zero) (alt empty p) (some_left m), other_most empty p)
 times_most (range_times (suc n) m) p some =
-    omega (arith, cat_steps (repeated (suc n) p) (repeated (m - suc n) (alt empty p)), copies_most (suc n) p (some_copy n))
+    omega (arith, cat_steps (repetition (suc n) p) (repetition (m - suc n) (alt empty p)), copies_most (suc n) p (some_copy n))
 
 -- both parts of a small sequence are small
 pub cat_small : (whole p q : Pattern) → whole ≡ cat p q → IsSmall whole → IsSmall p × IsSmall q
@@ -181,41 +185,41 @@ alike_same : (p q : Pattern) → p ≡ q → Alike p q
 alike_same p q is = subst (Alike p) is (alike_refl p)
 
 -- nothing, and boundaries
-nothing_faced : (b : Bool) → empty ≡ facing b empty
+nothing_faced : (b : Bool) → empty ≡ mirror_if b empty
 nothing_faced true = refl
 nothing_faced false = refl
 
 -- a boundary of a word is the same from either end
-boundary_faced : (b : Bool) → look boundary ≡ facing b (look boundary)
+boundary_faced : (b : Bool) → look boundary ≡ mirror_if b (look boundary)
 boundary_faced true = refl
 boundary_faced false = refl
 
 -- and so is what is no boundary
-no_boundary_faced : (b : Bool) → look no_boundary ≡ facing b (look no_boundary)
+no_boundary_faced : (b : Bool) → look no_boundary ≡ mirror_if b (look no_boundary)
 no_boundary_faced true = refl
 no_boundary_faced false = refl
 
 -- an end of the text, or the other
-edge_faced : (b : Bool) → look (if not b then start else end) ≡ facing b (look start)
+edge_faced : (b : Bool) → look (if not b then start else end) ≡ mirror_if b (look start)
 edge_faced true = refl
 edge_faced false = refl
 
 -- the end of the text is its start from the other end
-end_faced : (b : Bool) → look (if b then start else end) ≡ facing b (look end)
+end_faced : (b : Bool) → look (if b then start else end) ≡ mirror_if b (look end)
 end_faced true = refl
 end_faced false = refl
 
 -- a class is the same from either end
-class_faced : (b m n : Bool) (rs : List CharSet) → class m n rs ≡ facing b (class m n rs)
+class_faced : (b m n : Bool) (rs : List CharSet) → class m n rs ≡ mirror_if b (class m n rs)
 class_faced true m n rs = refl
 class_faced false m n rs = refl
 
 module _ (b : Bool) (fs : List Quest) (xs : List Seeking) (are : AreAsides [] xs fs) where
   -- what reads nothing and looks for nothing
-  pub same_put : (whole p o : Pattern) (old : List (Option ℕ)) → whole ≡ p → p ≡ facing b p → o ≡ aside p → spots p ≡ []
+  pub same_put : (whole p o : Pattern) (old : List (Option ℕ)) → whole ≡ p → p ≡ mirror_if b p → o ≡ aside p → spots p ≡ []
       → PutsAside b whole o fs xs old old
   same_put whole p o old is faced slotted none =
-      none_put b fs p (facing b whole) o xs old [] old are (alike_same p (facing b whole) (faced ∙ sym (ap (facing b) is))) slotted
+      none_put b fs p (mirror_if b whole) o xs old [] old are (alike_same p (mirror_if b whole) (faced ∙ sym (ap (mirror_if b) is))) slotted
       (subst (AreToldAs fs b []) (sym none) tt) (sym (append-nil old))
 
   -- an outline that is none of the others
@@ -223,15 +227,15 @@ module _ (b : Bool) (fs : List Quest) (xs : List Seeking) (are : AreAsides [] xs
       → ((n : Bool) (s : Vec CharSet Global) → roll-Outline x ≡ Class n s → ⊥) → ((p q : Box Outline Global) → roll-Outline x ≡ Then p q → ⊥)
       → ((p q : Box Outline Global) → roll-Outline x ≡ Or p q → ⊥) → ((t : Quantifier) (p : Box Outline Global) → roll-Outline x ≡ Repeated t p → ⊥)
       → ((n : Bool) (p : Box Outline Global) → roll-Outline x ≡ Behind n p → ⊥) → ((n : Bool) (p : Box Outline Global) → roll-Outline x ≡ Ahead n p → ⊥)
-      → PutsAside b (outlined (roll-Outline x)) (outlined (roll-Outline x)) fs xs old old
+      → PutsAside b (outline_pattern (roll-Outline x)) (outline_pattern (roll-Outline x)) fs xs old old
   same_node Outline-F.Empty old no_start no_end no_class no_then no_or no_times no_behind no_ahead =
-      subst (λ (p : Pattern). PutsAside b p p fs xs old old) (sym (fold-roll-Outline Pattern outlined_node Outline-F.Empty))
+      subst (λ (p : Pattern). PutsAside b p p fs xs old old) (sym (fold-roll-Outline Pattern outline_node Outline-F.Empty))
       (same_put empty empty empty old refl (nothing_faced b) refl refl)
   same_node Outline-F.Boundary old no_start no_end no_class no_then no_or no_times no_behind no_ahead =
-      subst (λ (p : Pattern). PutsAside b p p fs xs old old) (sym (fold-roll-Outline Pattern outlined_node Outline-F.Boundary))
+      subst (λ (p : Pattern). PutsAside b p p fs xs old old) (sym (fold-roll-Outline Pattern outline_node Outline-F.Boundary))
       (same_put (look boundary) (look boundary) (look boundary) old refl (boundary_faced b) refl refl)
   same_node Outline-F.NoBoundary old no_start no_end no_class no_then no_or no_times no_behind no_ahead =
-      subst (λ (p : Pattern). PutsAside b p p fs xs old old) (sym (fold-roll-Outline Pattern outlined_node Outline-F.NoBoundary))
+      subst (λ (p : Pattern). PutsAside b p p fs xs old old) (sym (fold-roll-Outline Pattern outline_node Outline-F.NoBoundary))
       (same_put (look no_boundary) (look no_boundary) (look no_boundary) old refl (no_boundary_faced b) refl refl)
   same_node Outline-F.Start old no_start no_end no_class no_then no_or no_times no_behind no_ahead = absurd (no_start rolls-Start)
   same_node Outline-F.End old no_start no_end no_class no_then no_or no_times no_behind no_ahead = absurd (no_end rolls-End)
@@ -247,46 +251,46 @@ module _ (b : Bool) (fs : List Quest) (xs : List Seeking) (are : AreAsides [] xs
       → ((n : Bool) (s : Vec CharSet Global) → o ≡ Class n s → ⊥) → ((p q : Box Outline Global) → o ≡ Then p q → ⊥)
       → ((p q : Box Outline Global) → o ≡ Or p q → ⊥) → ((t : Quantifier) (p : Box Outline Global) → o ≡ Repeated t p → ⊥)
       → ((n : Bool) (p : Box Outline Global) → o ≡ Behind n p → ⊥) → ((n : Bool) (p : Box Outline Global) → o ≡ Ahead n p → ⊥)
-      → PutsAside b (outlined o) (outlined o) fs xs old old
+      → PutsAside b (outline_pattern o) (outline_pattern o) fs xs old old
   others_put o old =
       ind-Outline
       (λ y. (y ≡ Start → ⊥) → (y ≡ End → ⊥) → ((n : Bool) (s : Vec CharSet Global) → y ≡ Class n s → ⊥)
       → ((p q : Box Outline Global) → y ≡ Then p q → ⊥) → ((p q : Box Outline Global) → y ≡ Or p q → ⊥)
       → ((t : Quantifier) (p : Box Outline Global) → y ≡ Repeated t p → ⊥) → ((n : Bool) (p : Box Outline Global) → y ≡ Behind n p → ⊥)
-      → ((n : Bool) (p : Box Outline Global) → y ≡ Ahead n p → ⊥) → PutsAside b (outlined y) (outlined y) fs xs old old)
+      → ((n : Bool) (p : Box Outline Global) → y ≡ Ahead n p → ⊥) → PutsAside b (outline_pattern y) (outline_pattern y) fs xs old old)
       (λ x y is. same_node x old) o
 
   -- an assertion of an end of the text
-  pub edge_put : (whole o : Pattern) (l : Look) (old : List (Option ℕ)) → o ≡ look l → look l ≡ facing b whole → PutsAside b whole o fs xs old old
+  pub edge_put : (whole o : Pattern) (l : Look) (old : List (Option ℕ)) → o ≡ look l → look l ≡ mirror_if b whole → PutsAside b whole o fs xs old old
   edge_put whole o l old is faced =
-      none_put b fs (look l) (facing b whole) o xs old [] old are (alike_same (look l) (facing b whole) faced) is tt (sym (append-nil old))
+      none_put b fs (look l) (mirror_if b whole) o xs old [] old are (alike_same (look l) (mirror_if b whole) faced) is tt (sym (append-nil old))
 
   -- the beginning
   pub start_put : (whole o : Pattern) (other : Bool) (old : List (Option ℕ)) → other ≡ not b → whole ≡ look start
       → o ≡ look (if other then start else end) → PutsAside b whole o fs xs old old
   start_put whole o other old way is made =
       edge_put whole o (if not b then start else end) old (made ∙ ap (λ (x : Bool). look (if x then start else end)) way)
-      (edge_faced b ∙ sym (ap (facing b) is))
+      (edge_faced b ∙ sym (ap (mirror_if b) is))
 
   -- the end
   pub end_put : (whole o : Pattern) (old : List (Option ℕ)) → whole ≡ look end → o ≡ look (if b then start else end)
       → PutsAside b whole o fs xs old old
-  end_put whole o old is made = edge_put whole o (if b then start else end) old made (end_faced b ∙ sym (ap (facing b) is))
+  end_put whole o old is made = edge_put whole o (if b then start else end) old made (end_faced b ∙ sym (ap (mirror_if b) is))
 
   -- a class, which no number tells
   pub class_put : (n : Bool) (rs : List CharSet) (whole o : Pattern) (old new : List (Option ℕ)) → whole ≡ class false n rs → o ≡ class false n rs
       → new ≡ old ++ (None ∷ []) → PutsAside b whole o fs xs old new
   class_put n rs whole o old new is made numbers =
-      none_put b fs (class false n rs) (facing b whole) o xs old (None ∷ []) new are
-      (alike_same (class false n rs) (facing b whole) (class_faced b false n rs ∙ sym (ap (facing b) is))) made (tt, tt) numbers
+      none_put b fs (class false n rs) (mirror_if b whole) o xs old (None ∷ []) new are
+      (alike_same (class false n rs) (mirror_if b whole) (class_faced b false n rs ∙ sym (ap (mirror_if b) is))) made (tt, tt) numbers
 
   -- what takes no copy of what it repeats
   pub never_put : (t : Times) (whole p s : Pattern) (old : List (Option ℕ)) → whole ≡ quantified_pattern t p → is_never t ≡ true
       → s ≡ quantified_pattern t empty → PutsAside b whole s fs xs old old
   never_put t whole p s old is never made =
-      let q = facing b p in
-      none_put b fs (quantified_pattern t q) (facing b whole) s xs old [] old are
-      (subst (Alike (quantified_pattern t q)) (sym (ap (facing b) is)) (times_facing b t p q (alike_refl q)))
+      let q = mirror_if b p in
+      none_put b fs (quantified_pattern t q) (mirror_if b whole) s xs old [] old are
+      (subst (Alike (quantified_pattern t q)) (sym (ap (mirror_if b) is)) (times_facing b t p q (alike_refl q)))
       (made ∙ never_copied t q never) (subst (AreToldAs fs b []) (sym (never_spots t q never)) tt) (sym (append-nil old))
 
 module _ (b : Bool) (fs : List Quest) where
@@ -295,12 +299,12 @@ module _ (b : Bool) (fs : List Quest) where
       → (first : PutsAside b p o fs xs old mid) → PutsAside b q r (fs ++ first.added) ys mid new → s ≡ alt o r
       → PutsAside b whole s fs ys old new
   or_put whole p q o r s xs ys old mid new is first second made =
-      subst (λ (z : Pattern). Puts b z s fs ys old new) (sym (alt_facing b p q) ∙ sym (ap (facing b) is))
-      (either_put b fs (facing b p) (facing b q) o r s xs ys old mid new first second made)
+      subst (λ (z : Pattern). Puts b z s fs ys old new) (sym (alt_facing b p q) ∙ sym (ap (mirror_if b) is))
+      (either_put b fs (mirror_if b p) (mirror_if b q) o r s xs ys old mid new first second made)
 
   -- and what is set aside is what is left of it, with the numbers of its marks
   pub fresh_set : (p o : Pattern) (x : Seeking) (xs : List Seeking) (fresh new : List (Option ℕ)) → fresh ≡ [] → PutsAside b p o fs xs fresh new
-      → unmarked p ≡ true → IsSmall p → x.backward ≡ b → x.pattern ≡ o → x.told ≡ new → SetsAside b p x fs xs
+      → is_unmarked p ≡ true → IsSmall p → x.backward ≡ b → x.pattern ≡ o → x.told ≡ new → SetsAside b p x fs xs
   fresh_set p o x xs fresh new none one bare small way pattern_is told_is =
       set_put b fs p o x xs new (subst (λ (l : List (Option ℕ)). PutsAside b p o fs xs l new) none one) bare small way pattern_is told_is
 
@@ -309,18 +313,18 @@ module _ (b : Bool) (fs : List Quest) where
       → (first : PutsAside b p o fs xs old mid) → PutsAside b q r (fs ++ first.added) ys mid new → s ≡ cat o r
       → PutsBoth b pv qv s fs ys old new
   then_put p q pv qv o r s xs ys old mid new p_is q_is first second made =
-      subst (λ (z : Pattern). Puts b (cat (facing b z) (facing b qv)) s fs ys old new) p_is
-      (subst (λ (z : Pattern). Puts b (cat (facing b p) (facing b z)) s fs ys old new) q_is
-      (both_put b fs (facing b p) (facing b q) o r s xs ys old mid new first second made))
+      subst (λ (z : Pattern). Puts b (cat (mirror_if b z) (mirror_if b qv)) s fs ys old new) p_is
+      (subst (λ (z : Pattern). Puts b (cat (mirror_if b p) (mirror_if b z)) s fs ys old new) q_is
+      (both_put b fs (mirror_if b p) (mirror_if b q) o r s xs ys old mid new first second made))
 
   -- of what is repeated
   pub repeated_put : (t : Times) (whole p o s : Pattern) (xs : List Seeking) (fresh own old new more : List (Option ℕ)) (n : ℕ)
-      → whole ≡ quantified_pattern t p → fresh ≡ [] → PutsAside b p o fs xs fresh own → new ≡ old ++ copied n more → n ≡ all_copies t → more ≡ own
+      → whole ≡ quantified_pattern t p → fresh ≡ [] → PutsAside b p o fs xs fresh own → new ≡ old ++ concat_copies n more → n ≡ all_copies t → more ≡ own
       → s ≡ quantified_pattern t o → PutsAside b whole s fs xs old new
   repeated_put t whole p o s xs fresh own old new more n is none one numbers count all made =
-      subst (λ (z : Pattern). Puts b (facing b z) s fs xs old new) (sym is)
+      subst (λ (z : Pattern). Puts b (mirror_if b z) s fs xs old new) (sym is)
       (times_put b fs t p o s xs own old new (subst (λ (l : List (Option ℕ)). PutsAside b p o fs xs l own) none one)
-      (numbers ∙ ap (λ (k : ℕ). old ++ copied k more) count ∙ ap (λ (l : List (Option ℕ)). old ++ copied (all_copies t) l) all) made)
+      (numbers ∙ ap (λ (k : ℕ). old ++ concat_copies k more) count ∙ ap (λ (l : List (Option ℕ)). old ++ concat_copies (all_copies t) l) all) made)
 
   -- of a lookaround, what is left of it by which way it looks
   pub behind_found : (n : Bool) (whole p pv o : Pattern) (xs : List Seeking) (old new : List (Option ℕ)) → whole ≡ lookbehind n pv → p ≡ pv
@@ -346,4 +350,4 @@ module _ (b : Bool) (fs : List Quest) where
   pub look_put : (is_ahead n : Bool) (p o s : Pattern) (xs : List Seeking) (old new : List (Option ℕ)) → is_ahead ≡ false
       → PutsAside b p o fs xs old new → s ≡ lookbehind n o → PutsLook is_ahead n b p s fs xs old new
   look_put true n p o s xs old new behind one made = absurd (true≢false behind)
-  look_put false n p o s xs old new behind one made = behind_put b fs n (facing b p) o s xs old new one made
+  look_put false n p o s xs old new behind one made = behind_put b fs n (mirror_if b p) o s xs old new one made

@@ -1,7 +1,7 @@
 -- The reading of patterns: each tree of the syntax is read from its spelling, and what is read is spelled so.
 use Rattle.std.proofs.Common.{◌≡◌, ℕ, false, List, [], ◌∷◌, ◌++◌, Option, Some, None, refl, sym, ap, subst, ◌∙◌, append_assoc, length, ◌<◌, Bool, true}
 use Rattle.std.proofs.Common.{true≢false, if◌then◌else◌}
-use Rattle.std.specs.Prelude.{option_and_then, ◌==◌, ◌*◌, ◌≤◌, is_some}
+use Rattle.std.specs.Prelude.{option_and_then, ◌==◌, ◌*◌, ◌≤◌}
 use Rattle.std.proofs.lemmas.List.{append-nil}
 use Rattle.std.proofs.lemmas.Bool.{lt-ltb, le-leb}
 use Rattle.std.specs.Str.{byte}
@@ -25,13 +25,14 @@ use Rattle.strkw_ecma.specs.Syntax.{with_name, with_names, with_alternative_name
 use Rattle.strkw_ecma.specs.Syntax.{quantifier_spelling, group_spelling, greed_spelling, spelling, alternative_spelling, term_spelling, atom_spelling}
 use Rattle.strkw_ecma.specs.Syntax.{max_nesting}
 use Rattle.strkw_ecma.specs.WellFormed.{IsQuantifier, IsGroup, IsWellFormed, IsAlternative, IsTerm, IsAtom}
-use Rattle.strkw_ecma.specs.Numbers.{number, number_of, IsNumber}
+use Rattle.strkw_ecma.specs.Numbers.{number, IsNumber}
 use Rattle.strkw_ecma.specs.Size.{steps, max_term_steps}
 use Rattle.strkw_ecma.specs.Patterns.{atom_pattern, times, copies}
 use Rattle.strkw_ecma.proofs.Digits.{reads_number}
 use Rattle.strkw_ecma.specs.machine.Reading.{Open, Outer, Level, Last, none, atom, counted, State, between, opening, low, high, counting, with_mode}
-use Rattle.strkw_ecma.specs.machine.Reading.{with_quantifier, with_count, on_range_end, on_low, on_high, when, all_terms, joined, with_atom, naming, name_coding}
-use Rattle.strkw_ecma.specs.machine.Reading.{on_name_char, on_naming, on_name_coding, closes, opened_within, with_open, on_token, on_group, on_escape}
+use Rattle.strkw_ecma.specs.machine.Reading.{with_quantifier, with_count, on_range_end, on_low, on_high, when, all_terms, join_alternatives, with_atom, naming}
+use Rattle.strkw_ecma.specs.machine.Reading.{name_coding}
+use Rattle.strkw_ecma.specs.machine.Reading.{on_name_char, on_naming, on_name_coding, closes, open_within, with_open, on_token, on_group, on_escape}
 use Rattle.strkw_ecma.specs.machine.Reading.{coding, on_coding, in_property, on_property, next, read_from, initial, with_name as add_name}
 use Rattle.strkw_ecma.proofs.ClassReadings.{reads_class}
 use Rattle.strkw_ecma.proofs.CodeReadings.{follow, code_tail, begun, reads_code}
@@ -354,7 +355,7 @@ module _ (outer : Outer trees) (l : Level trees) (x : Last trees) where
 
   -- and `>` behind it opens the group, where that is not nested too deep
   ends_name : (n : List NameChar) → IsName n → (cs : List ℕ)
-      → in_name n (byte ">" ∷ cs) ≡ option_and_then (λ t. read_from t cs) (opened_within (add_name (standing outer l x) (name_value n)) (of_group (named n)))
+      → in_name n (byte ">" ∷ cs) ≡ option_and_then (λ t. read_from t cs) (open_within (add_name (standing outer l x) (name_value n)) (of_group (named n)))
   ends_name [] h cs = absurd h
   ends_name (y ∷ n) h cs = refl
 
@@ -381,7 +382,8 @@ opens outer e a x (named n) cs h v w =
     let l : Level trees = record { earlier = e; current = a } in
     ap (in_name outer l x []) (append_assoc (name_spelling n) (byte ">" ∷ []) cs)
     ∙ reads_name outer l x n v (byte ">" ∷ cs) ∙ ends_name outer l x n v cs
-    ∙ ap (λ (b : Bool). option_and_then (λ t. read_from t cs) (with_open (add_name (standing outer l x) (name_value n)) (of_group (named n)) b)) (lt-ltb (length outer.groups) max_nesting h)
+    ∙ ap (λ (b : Bool). option_and_then (λ t. read_from t cs) (with_open (add_name (standing outer l x) (name_value n)) (of_group (named n)) b))
+    (lt-ltb (length outer.groups) max_nesting h)
 
 -- and that of a lookbehind
 looks : (outer : Outer trees) (e : Option Disjunction) (a : Alternative) (x : Last trees) (n : Bool) (cs : List ℕ) → length outer.groups < max_nesting
@@ -410,7 +412,7 @@ around os ns = record { groups = os; names = ns }
 mutual
   -- behind the spelling of a disjunction the reader stands where the disjunction has been read
   reads_disjunction : (d : Disjunction) (os : List (Open trees)) (ns : List (List ℕ)) → IsWellFormed (length os) d → (cs : List ℕ)
-      → ((e : Option Disjunction) × (a : Alternative) × (x : Last trees) × (joined trees e (all_terms a x) ≡ d)
+      → ((e : Option Disjunction) × (a : Alternative) × (x : Last trees) × (join_alternatives trees e (all_terms a x) ≡ d)
       × (read_from (state (around os ns) None nothing none) (spelling d ++ cs) ≡ read_from (state (around os (with_names ns d)) e a x) cs))
   reads_disjunction (only a) os ns h cs =
       let r = reads_alternative a os ns h None cs in (None, r.0, r.1, ap only r.2, r.3)

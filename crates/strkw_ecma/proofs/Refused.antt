@@ -11,15 +11,16 @@ use Rattle.strkw_ecma.specs.WellFormed.{IsWellFormed, IsEnclosing}
 use Rattle.strkw_ecma.specs.Patterns.{pattern}
 use Rattle.strkw_ecma.specs.Tree.{Pattern}
 use Rattle.strkw_ecma.specs.Size.{max_steps}
-use Rattle.strkw_ecma.specs.Numbers.{number, number_of, CountToken, digit, comma, closing_brace, no_count, count_token}
+use Rattle.strkw_ecma.specs.Numbers.{number, CountToken, digit, comma, closing_brace, no_count, count_token}
 use Rattle.strkw_ecma.specs.Names.{NameChar, name_value, Extension, uncaptured, name_opening, look_equals, look_negation, no_extension, extension}
 use Rattle.strkw_ecma.specs.Names.{NameToken, name_end, name_backslash, name_equals, name_negation, name_character, name_token}
 use Rattle.strkw_ecma.specs.machine.PropertyReading.{PropertyPart, brace_awaited, in_braces}
 use Rattle.strkw_ecma.specs.machine.Reading.{Open, Outer, Level, State, Last, none, atom, counted, Count, low, high, Mode, between, escaping, opening}
 use Rattle.strkw_ecma.specs.machine.Reading.{extending, class_opened, counting, coding, in_class, class_escaping, class_coding, in_property, in_class_property}
-use Rattle.strkw_ecma.specs.machine.Reading.{naming, name_escaping, name_coding, initial, whole_level, joined, all_terms, with_mode, opened_within, with_open}
+use Rattle.strkw_ecma.specs.machine.Reading.{naming, name_escaping, name_coding, initial, whole_level, join_alternatives, all_terms, with_mode, open_within}
+use Rattle.strkw_ecma.specs.machine.Reading.{with_open}
 use Rattle.strkw_ecma.specs.machine.Reading.{with_count, when, on_low, on_high, on_count, on_extension}
-use Rattle.strkw_ecma.specs.machine.Reading.{on_naming, next_in, read_short, read_from, small, with_name as add_name}
+use Rattle.strkw_ecma.specs.machine.Reading.{on_naming, next_in, read_short, read_from, keep_small, with_name as add_name}
 use Rattle.strkw_ecma.specs.Lookahead.{is_apart}
 use Rattle.strkw_ecma.specs.Front.{parts, steps_of_parts}
 use Rattle.strkw_ecma.specs.machine.Outcomes.{takes_pattern}
@@ -54,7 +55,7 @@ beginning (o ∷ os) d f w = (
   o.enclosing,
   d,
   subst (IsBeginning (length os)) (ap (λ z. outer_spelling os ++ z) (joined_spelling o.level.earlier o.level.current))
-      (beginning os (joined trees o.level.earlier o.level.current) f.1 (level_formed (length os) o.level.earlier o.level.current f.0.0.0 f.0.0.1)),
+      (beginning os (join_alternatives trees o.level.earlier o.level.current) f.1 (level_formed (length os) o.level.earlier o.level.current f.0.0.0 f.0.0.1)),
   f.0.1,
   w,
   refl,
@@ -111,7 +112,7 @@ term_told outer l (atom a) f g h q rest text refused e =
         front,
         rest,
         subst (IsBeginning (length outer.groups)) (ap (λ z. outer_spelling outer.groups ++ z) (joined_spelling l.earlier l.current))
-            (beginning outer.groups (joined trees l.earlier l.current) f (level_formed (length outer.groups) l.earlier l.current g.0 g.1)),
+            (beginning outer.groups (join_alternatives trees l.earlier l.current) f (level_formed (length outer.groups) l.earlier l.current g.0 g.1)),
         sym (append_assoc front (atom_spelling a ++ quantifier_spelling q) rest)
             ∙ ap (λ z. z ++ rest) (sym (append_assoc front (atom_spelling a) (quantifier_spelling q))) ∙ e,
       ),
@@ -122,7 +123,8 @@ longer_none : {T : Type 0} (m : List ℕ → T) (ds : List ℕ) (b : Bool) → o
 longer_none m ds false e = refl
 longer_none m ds true e = absurd (not_some _ e)
 
-module _ (outer : Outer trees) (l : Level trees) (x : Last trees) (f : AreLevels outer.groups) (g : IsLevel (length outer.groups) l) (h : IsLast (length outer.groups) x)
+module _ (outer : Outer trees) (l : Level trees) (x : Last trees) (f : AreLevels outer.groups) (g : IsLevel (length outer.groups) l)
+    (h : IsLast (length outer.groups) x)
     (c : ℕ) (rest text : List ℕ) where
   -- what is read up to the end of the last term is what a pattern may begin with
   begins : IsBeginning (length outer.groups) (before outer l x)
@@ -158,7 +160,7 @@ module _ (outer : Outer trees) (l : Level trees) (x : Last trees) (f : AreLevels
           too_deep (of_group capturing) tt (before outer l x, c ∷ rest, begins, regroup (before outer l x) (byte "(" ∷ []) (c ∷ rest) text e) is
 
   -- what is not opened where a term may stand is too deep
-  look_too_deep : (k : Enclosing) → IsEnclosing k → opened_within (standing outer l x) k ≡ None
+  look_too_deep : (k : Enclosing) → IsEnclosing k → open_within (standing outer l x) k ≡ None
       → HasTermWithin (length outer.groups) (enclosing_spelling k) text → IsReason text TooDeep
   look_too_deep k w refused t = too_deep k w t (not_opened (standing outer l x) k _ refused)
 
@@ -277,9 +279,11 @@ part_told a (in_braces n p) c rest text w e =
     ))
 
 -- what is told of a character that is refused in a count is so
-counting_told : (outer : Outer trees) (l : Level trees) (x : Last trees) → AreLevels outer.groups → IsLevel (length outer.groups) l → IsLast (length outer.groups) x
+counting_told : (outer : Outer trees) (l : Level trees) (x : Last trees) → AreLevels outer.groups → IsLevel (length outer.groups) l
+    → IsLast (length outer.groups) x
     → (n : Count trees) → IsCount n → (c : ℕ) (rest text : List ℕ) → on_count (standing outer l x) n c ≡ None
-    → spelled (with_mode (standing outer l x) (counting n)) ++ c ∷ rest ≡ text → IsReason text (refusal_at (image (with_mode (standing outer l x) (counting n))) c)
+    → spelled (with_mode (standing outer l x) (counting n)) ++ c ∷ rest ≡ text
+    → IsReason text (refusal_at (image (with_mode (standing outer l x) (counting n))) c)
 counting_told outer l x f g h (low o) w c rest text refused e =
     low_told outer l x f g h c rest text o (count_token c) refl (char_of_count_token c) w refused e
 counting_told outer l x f g h (high ds o) w c rest text refused e =
@@ -379,7 +383,7 @@ left_out true d refused = absurd (true≢false refused)
 
 -- a well-formed tree of a text that is left out makes `TooLarge` a reason
 large_of : (text : List ℕ) (o : Option Disjunction) (p : Pattern) → IsSpelled o text → IsFormed o → Some p ≡ option_map pattern o
-    → is_some (small trees o) ≡ false → IsReason text TooLarge
+    → is_some (keep_small trees o) ≡ false → IsReason text TooLarge
 large_of text None p w f some refused = absurd (not_some p some)
 large_of text (Some d) p w f some refused =
     (d, f, w, leb-false _ _ (left_out (nat_le (steps_of_parts (parts (pattern d))) max_steps) d refused))
@@ -393,5 +397,5 @@ pub too_large : (text : List ℕ) (p : Pattern) → length text ≤ max_length �
     → takes_pattern text ≡ false → IsReason text TooLarge
 too_large text p short some apart refused =
     large_of text (read_from (initial trees) text) p (sound text) (read_formed text) (some ∙ ap (option_map pattern) (all_read text short))
-    (ap (λ o. is_some (small trees o)) (sym (all_read text short))
-    ∙ ap (λ (b : Bool). is_some (if b then small trees (read_short trees text) else None)) (sym apart) ∙ refused)
+    (ap (λ o. is_some (keep_small trees o)) (sym (all_read text short))
+    ∙ ap (λ (b : Bool). is_some (if b then keep_small trees (read_short trees text) else None)) (sym apart) ∙ refused)

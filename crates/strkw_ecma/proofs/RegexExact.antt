@@ -16,8 +16,8 @@ use Rattle.strkw_ecma.specs.Regex.{at_start, at_end, at_boundary, at_no_boundary
 use Rattle.strkw_ecma.specs.Regex.{part_spelling}
 use Rattle.strkw_ecma.specs.Regex.{spelling, Disjunction, parts, IsLeaf, IsPart, MayPrecede, AreParts, captures, names, calls}
 use Rattle.strkw_ecma.specs.Regex.{capture_limit, IsMadeOf, IsRegex}
-use Rattle.strkw_ecma.specs.machine.Recognising.{Last, none, atom, counted, Standing, between, opening, captured}
-use Rattle.strkw_ecma.specs.machine.Recognising.{quantified_behind, questioned_behind, then_stands, on_token}
+use Rattle.strkw_ecma.specs.machine.Recognising.{Last, none, atom, counted, Standing, between, opening, open_capture}
+use Rattle.strkw_ecma.specs.machine.Recognising.{add_quantifier_behind, add_question_behind, then_stands, on_token}
 use Rattle.strkw_ecma.specs.machine.Recognising.{on_escape, when}
 use Rattle.strkw_ecma.specs.machine.Recognising.{on_group, is_whole, is_closed, nothing_read, is_read, of_group, of_reference}
 use Rattle.strkw_ecma.proofs.Readings.{no_question}
@@ -44,7 +44,7 @@ reads_leaf s (calls_for (y ∷ m)) h cs w = reads_name s of_reference (y ∷ m) 
 reads_leaf s (bracketed n r e) h cs w = reads_class s n r e h cs
 
 -- behind a quantifier a question mark makes it lazy
-lazy_question : (s : Standing) (x : Last) → is_some (lazied s x) ≡ true → questioned_behind s x ≡ lazied s x
+lazy_question : (s : Standing) (x : Last) → is_some (lazied s x) ≡ true → add_question_behind s x ≡ lazied s x
 lazy_question s none h = absurd (true≢false (sym h))
 lazy_question s atom h = absurd (true≢false (sym h))
 lazy_question s counted h = refl
@@ -110,7 +110,7 @@ part_begins s (opens (of_lookbehind true)) e h w cs = refl
 part_begins s (opens (of_lookahead false)) e h w cs = refl
 part_begins s (opens (of_lookahead true)) e h w cs = refl
 part_begins s closes e h w cs = refl
-part_begins s (repeats q) e h w cs = absurd (true≢false (sym (ap (λ x. is_some (quantified_behind s x)) (sym e) ∙ w)))
+part_begins s (repeats q) e h w cs = absurd (true≢false (sym (ap (λ x. is_some (add_quantifier_behind s x)) (sym e) ∙ w)))
 part_begins s lazily e h w cs = absurd (true≢false (sym (ap (λ x. is_some (lazied s x)) (sym e) ∙ w)))
 
 -- where parts go on, the first may stand there
@@ -125,11 +125,11 @@ parts_begin s (p ∷ ps) e h w = part_begins s p e h.0 (first_goes (step s p) ps
 
 -- behind `(` a group that captures is entered, where no question mark follows
 enters : (s : Standing) → nat_lt (s.captures + 1) capture_limit ≡ true → (cs : List ℕ) → IsNoQuestion cs
-    → run s opening cs ≡ run (captured s) between cs
+    → run s opening cs ≡ run (open_capture s) between cs
 enters s few [] h = refl
 enters s few (c ∷ cs) h =
     ap (λ (b : Bool). after (on_group s c b) cs) h
-    ∙ ap (λ (b : Bool). after (option_and_then (λ t. on_token t (token c)) (when b (Some (captured s)))) cs) few
+    ∙ ap (λ (b : Bool). after (option_and_then (λ t. on_token t (token c)) (when b (Some (open_capture s)))) cs) few
 
 -- whether a pattern may end behind what is known, where there is something
 abbrev whole_of : Option Standing → Bool
@@ -146,11 +146,11 @@ rest_whole (Some u) ps f w = f u w
 -- the same behind `(`
 group_whole : (s : Standing) (ps : List Part) → ((u : Standing) → is_some (steps u ps) ≡ true → run u between (spelling ps) ≡ whole_of (steps u ps))
     → AreParts ps → (b : Bool) → nat_lt (s.captures + 1) capture_limit ≡ b
-    → is_some (option_and_then (λ t. steps t ps) (when b (Some (captured s)))) ≡ true
-    → run s opening (spelling ps) ≡ whole_of (option_and_then (λ t. steps t ps) (when b (Some (captured s))))
+    → is_some (option_and_then (λ t. steps t ps) (when b (Some (open_capture s)))) ≡ true
+    → run s opening (spelling ps) ≡ whole_of (option_and_then (λ t. steps t ps) (when b (Some (open_capture s))))
 group_whole s ps f h false e w = absurd (true≢false (sym w))
 group_whole s ps f h true e w =
-    enters s e (spelling ps) (parts_begin (captured s) ps refl h w) ∙ f (captured s) w
+    enters s e (spelling ps) (parts_begin (open_capture s) ps refl h w) ∙ f (open_capture s) w
 
 -- a part that does not begin such a group, and the rest
 part_whole : (s : Standing) (p : Part) (ps : List Part) → IsNoCapture p

@@ -23,17 +23,17 @@ use Rattle.strkw_ecma.specs.Syntax as syntax
 use Rattle.strkw_ecma.specs.Regex.{AreDecimal, IsRepetition, IsEscape, is_property, IsPropertyExpression, begins_with_zero, begins_with_digit}
 use Rattle.strkw_ecma.specs.machine.CodeReading as reading
 use Rattle.strkw_ecma.specs.machine.CodeReading.{Wanted, one_more, two_more, three_more, four_more}
-use Rattle.strkw_ecma.specs.machine.Makers.{trees, patterns, value_if}
+use Rattle.strkw_ecma.specs.machine.Makers.{trees, value_if}
 use Rattle.strkw_ecma.specs.machine.CodeReading.{value_or}
 use Rattle.strkw_ecma.specs.machine.PropertyReading.{PropertyPart, brace_awaited, PropertyRead, no_property_read, property_goes, property_ends, property_next}
 use Rattle.strkw_ecma.specs.machine.Recognising.{Last, none, atom, counted, Form, unit_form, other_form, NumberPart, letter_awaited, unit_opened, digits_of}
-use Rattle.strkw_ecma.specs.machine.Recognising.{point_opened, NumberRead, no_number, number_goes, number_ends, number_next, digit_read, digit_or_none}
+use Rattle.strkw_ecma.specs.machine.Recognising.{point_opened, NumberRead, no_number, number_goes, number_ends, number_next, read_digit, digit_or_none}
 use Rattle.strkw_ecma.specs.machine.Recognising.{number_if}
 use Rattle.strkw_ecma.specs.machine.Recognising.{on_unit, on_point, point_digit, Naming, Standing, low, high, Mode, between}
 use Rattle.strkw_ecma.specs.machine.Recognising.{calling, counting, numbering, in_property, naming, name_coding}
-use Rattle.strkw_ecma.specs.machine.Recognising.{referring, State, at, stands, with_last, referred}
-use Rattle.strkw_ecma.specs.machine.Recognising.{quantified_behind, quantified, questioned_behind, then_stands, on_escape}
-use Rattle.strkw_ecma.specs.machine.Recognising.{held, on_referring, on_number, state_if, on_property, with_name_char, name_read}
+use Rattle.strkw_ecma.specs.machine.Recognising.{referring, State, at, stands, with_last, add_reference}
+use Rattle.strkw_ecma.specs.machine.Recognising.{add_quantifier_behind, add_quantifier, add_question_behind, then_stands, on_escape}
+use Rattle.strkw_ecma.specs.machine.Recognising.{cap_number, on_referring, on_number, state_if, on_property, with_name_char, name_read}
 use Rattle.strkw_ecma.specs.machine.Recognising.{on_naming}
 use Rattle.strkw_ecma.specs.machine.Recognising.{on_name_coding, on_low, range_read, on_high, holds_of, is_read_from}
 use Rattle.strkw_ecma.proofs.Letters.{is_not}
@@ -65,7 +65,7 @@ module _ (F : NumberPart → List ℕ → Bool) (G : Form → ℕ → List ℕ �
     (turn : (k : NumberPart) (c : ℕ) (cs : List ℕ) → F k (c ∷ cs) ≡ follow_number F G (number_next k c) cs) where
   -- a digit that makes no number above the greatest is read
   one_digit : (f : Form) (w : Wanted) (v d : ℕ) (cs : List ℕ) → is_hex_digit d ≡ true → v * 16 + digit_value d ≤ max_code_point
-      → F (digits_of f w v) (d ∷ cs) ≡ follow_number F G (digit_read f w (v * 16 + digit_value d)) cs
+      → F (digits_of f w v) (d ∷ cs) ≡ follow_number F G (read_digit f w (v * 16 + digit_value d)) cs
   one_digit f w v d cs h m =
       turn (digits_of f w v) d cs
       ∙ ap (λ (b : Bool). follow_number F G (digit_or_none f w (value_if b (v * 16 + digit_value d))) cs)
@@ -299,26 +299,26 @@ reads_comma s ds h cs = ap (λ (b : Bool). after (state_if b (Some (at s (counti
 
 -- behind the first number, a closing brace
 reads_exact : (s : Standing) (ds : List ℕ) → AreDecimal ds → (cs : List ℕ)
-    → run s (counting (low ds)) (byte "}" ∷ cs) ≡ after (then_stands (quantified s)) cs
-reads_exact s ds h cs = ap (λ (b : Bool). after (state_if b (then_stands (quantified s))) cs) h.1
+    → run s (counting (low ds)) (byte "}" ∷ cs) ≡ after (then_stands (add_quantifier s)) cs
+reads_exact s ds h cs = ap (λ (b : Bool). after (state_if b (then_stands (add_quantifier s))) cs) h.1
 
 -- and behind the second, where it is not the smaller
 reads_range : (s : Standing) (ds es : List ℕ) → has_digits es ≡ true → number ds ≤ number es → (cs : List ℕ)
-    → after (range_read s ds es) cs ≡ after (then_stands (quantified s)) cs
+    → after (range_read s ds es) cs ≡ after (then_stands (add_quantifier s)) cs
 reads_range s ds [] h m cs = absurd (true≢false (sym h))
 reads_range s ds (e ∷ es) h m cs =
-    ap (λ (b : Bool). after (state_if b (then_stands (quantified s))) cs) (le-leb (number ds) (number (e ∷ es)) m)
+    ap (λ (b : Bool). after (state_if b (then_stands (add_quantifier s))) cs) (le-leb (number ds) (number (e ∷ es)) m)
 
 -- so a quantifier is read from its spelling, where one may stand
 -- a question mark is taken as one
-reads_optional : (s : Standing) (x : Last) → is_some (quantified_behind s x) ≡ true → questioned_behind s x ≡ quantified_behind s x
+reads_optional : (s : Standing) (x : Last) → is_some (add_quantifier_behind s x) ≡ true → add_question_behind s x ≡ add_quantifier_behind s x
 reads_optional s none h = refl
 reads_optional s atom h = refl
 reads_optional s counted h = absurd (true≢false (sym h))
 
 -- any of them
-pub reads_quantifier : (s : Standing) (q : Quantifier) → IsRepetition q → is_some (quantified s) ≡ true → (cs : List ℕ)
-    → run s between (quantifier_spelling q ++ cs) ≡ after (then_stands (quantified s)) cs
+pub reads_quantifier : (s : Standing) (q : Quantifier) → IsRepetition q → is_some (add_quantifier s) ≡ true → (cs : List ℕ)
+    → run s between (quantifier_spelling q ++ cs) ≡ after (then_stands (add_quantifier s)) cs
 reads_quantifier s zero_or_more h w cs = refl
 reads_quantifier s one_or_more h w cs = refl
 reads_quantifier s zero_or_one h w cs = ap (λ o. after (then_stands o) cs) (reads_optional s s.last w)
@@ -402,11 +402,11 @@ escape_of_digit c h z =
     ∙ ap (λ (b : Bool). if b then set else unknown) (no_one_of c (codes "dDsSwW") refl h)
 
 -- a small number is not held
-digit_held : (c : ℕ) → is_digit c ≡ true → c - byte "0" ≡ held (number (c ∷ []))
+digit_held : (c : ℕ) → is_digit c ≡ true → c - byte "0" ≡ cap_number (number (c ∷ []))
 digit_held c h = small (c - byte "0") (by_digit c h)
   where
     -- the same of its value
-    small : (n : ℕ) → n ≤ 9 → n ≡ held (0 * 10 + n)
+    small : (n : ℕ) → n ≤ 9 → n ≡ cap_number (0 * 10 + n)
     small n m = grind (arith, nat_tests)
 
     -- that of a digit is small
@@ -415,22 +415,22 @@ digit_held c h = small (c - byte "0") (by_digit c h)
 
 -- digits of a back reference are read
 reads_number : (s : Standing) (ds es : List ℕ) → are_digits es ≡ true → (cs : List ℕ)
-    → run s (referring (held (number ds))) (es ++ cs) ≡ run s (referring (held (number (ds ++ es)))) cs
-reads_number s ds [] h cs = ap (λ z. run s (referring (held (number z))) cs) (sym (append-nil ds))
+    → run s (referring (cap_number (number ds))) (es ++ cs) ≡ run s (referring (cap_number (number (ds ++ es)))) cs
+reads_number s ds [] h cs = ap (λ z. run s (referring (cap_number (number z))) cs) (sym (append-nil ds))
 reads_number s ds (e ∷ es) h cs =
-    ap (λ (b : Bool). after (on_referring s (held (number ds)) e b) (es ++ cs)) (and_left (is_digit e) _ h)
-    ∙ ap (λ n. run s (referring n) (es ++ cs)) (sym (ap held (number_push 0 ds e) ∙ held_push (number ds) (e - byte "0")))
+    ap (λ (b : Bool). after (on_referring s (cap_number (number ds)) e b) (es ++ cs)) (and_left (is_digit e) _ h)
+    ∙ ap (λ n. run s (referring n) (es ++ cs)) (sym (ap cap_number (number_push 0 ds e) ∙ held_push (number ds) (e - byte "0")))
     ∙ reads_number s (ds ++ e ∷ []) es (and_right (is_digit e) _ h) cs
-    ∙ ap (λ z. run s (referring (held (number z))) cs) (append_assoc ds (e ∷ []) es)
+    ∙ ap (λ z. run s (referring (cap_number (number z))) cs) (append_assoc ds (e ∷ []) es)
 
 -- and it ends where no digit follows
-ends_number : (s : Standing) (n : ℕ) (cs : List ℕ) → begins_with_digit cs ≡ false → run s (referring n) cs ≡ run (referred s n) between cs
+ends_number : (s : Standing) (n : ℕ) (cs : List ℕ) → begins_with_digit cs ≡ false → run s (referring n) cs ≡ run (add_reference s n) between cs
 ends_number s n [] h = refl
 ends_number s n (c ∷ cs) h = ap (λ (b : Bool). after (on_referring s n c b) cs) h
 
 -- so a back reference by a number is read
 pub reads_numbered : (s : Standing) (ds : List ℕ) → AreDecimal ds → begins_with_zero ds ≡ false → (cs : List ℕ) → begins_with_digit cs ≡ false
-    → run s between (byte "\\" ∷ (ds ++ cs)) ≡ run (referred s (held (number ds))) between cs
+    → run s between (byte "\\" ∷ (ds ++ cs)) ≡ run (add_reference s (cap_number (number ds))) between cs
 reads_numbered s [] h z cs w = absurd (true≢false (sym h.1))
 reads_numbered s (d ∷ ds) h z cs w =
     let is = and_left (is_digit d) _ h.0 in
@@ -438,4 +438,4 @@ reads_numbered s (d ∷ ds) h z cs w =
     ∙ ap (λ (b : Bool). after (if b then Some (at s (referring (d - byte "0"))) else if d == byte "k" then Some (at s calling) else None) (ds ++ cs)) is
     ∙ ap (λ n. run s (referring n) (ds ++ cs)) (digit_held d is)
     ∙ reads_number s (d ∷ []) ds (and_right (is_digit d) _ h.0) cs
-    ∙ ends_number s (held (number (d ∷ ds))) cs w
+    ∙ ends_number s (cap_number (number (d ∷ ds))) cs w

@@ -27,7 +27,7 @@ use Rattle.strkw_ecma.specs.Regex.{called as calls_for, bracketed, Part, bar, ed
 use Rattle.strkw_ecma.specs.Regex.{IsRepetition, IsClassItem, is_property, begins_with_zero, IsPart, MayPrecede, AreParts, capture_limit}
 use Rattle.strkw_ecma.specs.machine.CodeReading as reading
 use Rattle.strkw_ecma.specs.machine.CodeReading.{two_more}
-use Rattle.strkw_ecma.specs.machine.Makers.{trees, patterns}
+use Rattle.strkw_ecma.specs.machine.Makers.{trees}
 use Rattle.strkw_ecma.specs.machine.CodeReading.{coding_next, unit_opened as name_unit_opened}
 use Rattle.strkw_ecma.specs.machine.PropertyReading.{PropertyRead, no_property_read, property_goes, property_ends, property_next, brace_awaited}
 use Rattle.strkw_ecma.specs.machine.Recognising.{Last, none, atom, counted, NumberRead, no_number, number_goes, number_ends, number_next, letter_awaited}
@@ -36,14 +36,15 @@ use Rattle.strkw_ecma.specs.machine.Recognising.{escaping}
 use Rattle.strkw_ecma.specs.machine.Recognising.{opening, extending, class_opened, calling, counting, numbering, in_class, class_escaping, class_numbering}
 use Rattle.strkw_ecma.specs.machine.Recognising.{in_property, in_class_property, naming, name_escaping, name_coding, referring, State, at, stands, Pending}
 use Rattle.strkw_ecma.specs.machine.Recognising.{fresh}
-use Rattle.strkw_ecma.specs.machine.Recognising.{captured_within, with_name, quantified_behind, quantified, questioned_behind, questioned, closed, then_stands}
-use Rattle.strkw_ecma.specs.machine.Recognising.{on_token, on_escape, held, on_referring, on_number, state_if, on_property, on_group}
+use Rattle.strkw_ecma.specs.machine.Recognising.{open_capture_within, with_name, add_quantifier_behind, add_quantifier, add_question_behind, add_question}
+use Rattle.strkw_ecma.specs.machine.Recognising.{close_group, then_stands}
+use Rattle.strkw_ecma.specs.machine.Recognising.{on_token, on_escape, cap_number, on_referring, on_number, state_if, on_property, on_group}
 use Rattle.strkw_ecma.specs.machine.Recognising.{on_extension}
 use Rattle.strkw_ecma.specs.machine.Recognising.{on_calling, with_name_char, name_read, look_read, on_naming, on_name_escape, on_name_coding, on_low}
 use Rattle.strkw_ecma.specs.machine.Recognising.{range_read}
 use Rattle.strkw_ecma.specs.machine.Recognising.{on_high, on_count, took, took_dash, may_close, within, on_class_token, on_class_escape, number_item}
 use Rattle.strkw_ecma.specs.machine.Recognising.{on_class_number, on_class_property, on_bracket, next_in, is_whole, ends_in, holds_of, is_read_from}
-use Rattle.strkw_ecma.specs.machine.Recognising.{referred}
+use Rattle.strkw_ecma.specs.machine.Recognising.{add_reference}
 use Rattle.strkw_ecma.proofs.Letters.{same_char, char_of, char_of_token, char_of_letter, char_of_escape, char_of_class_token, char_of_class_escape}
 use Rattle.strkw_ecma.proofs.Letters.{char_of_class, char_of_extension, char_of_extension_token, char_of_name, char_of_name_token, char_of_count}
 use Rattle.strkw_ecma.proofs.Letters.{char_of_count_token}
@@ -96,7 +97,7 @@ Written (name_escaping g n) w = (v : List ℕ) × NameText g n v × (w ≡ v ++ 
 Written (name_coding g n k) w =
     (v : List ℕ) × (j : reading.Coding trees) × NameText g n v × IsCoding j × (is_unicode_coding j ≡ true) × (coding_image j ≡ k)
     × (w ≡ v ++ byte "\\" ∷ coding_spelling j)
-Written (referring n) w = (ds : List ℕ) × AreDecimal ds × (begins_with_zero ds ≡ false) × (held (number ds) ≡ n) × (w ≡ byte "\\" ∷ ds)
+Written (referring n) w = (ds : List ℕ) × AreDecimal ds × (begins_with_zero ds ≡ false) × (cap_number (number ds) ≡ n) × (w ≡ byte "\\" ∷ ds)
 
 -- whether the part is a back reference by a number
 abbrev pub is_number : Part → Bool
@@ -136,22 +137,22 @@ text_follows : (s : Standing) (v w : List ℕ) (o : Option State) → v ≡ w �
 text_follows s v w o e = subst (λ z. Follows s z o) e
 
 -- behind `?`
-question_follows : (s : Standing) (x : Last) → s.last ≡ x → Follows s (byte "?" ∷ []) (then_stands (questioned_behind s x))
+question_follows : (s : Standing) (x : Last) → s.last ≡ x → Follows s (byte "?" ∷ []) (then_stands (add_question_behind s x))
 question_follows s none e = tt
-question_follows s atom e = inr (repeats zero_or_one, tt, refl, refl, ap (quantified_behind s) e, refl)
+question_follows s atom e = inr (repeats zero_or_one, tt, refl, refl, ap (add_quantifier_behind s) e, refl)
 question_follows s counted e = inr (lazily, tt, refl, refl, ap (lazied s) e, refl)
 
 -- behind any character between terms
 token_follows : (s : Standing) (c : ℕ) (k : Token) → token c ≡ k → char_of k c ≡ c → Follows s (c ∷ []) (on_token s k)
 token_follows s c bar_token t e = inr (bar, tt, refl, ap (λ z. z ∷ []) e, refl, refl)
-token_follows s c asterisk t e = after_step s (repeats zero_or_more) _ tt refl (ap (λ z. z ∷ []) e) (quantified s) refl
-token_follows s c plus t e = after_step s (repeats one_or_more) _ tt refl (ap (λ z. z ∷ []) e) (quantified s) refl
+token_follows s c asterisk t e = after_step s (repeats zero_or_more) _ tt refl (ap (λ z. z ∷ []) e) (add_quantifier s) refl
+token_follows s c plus t e = after_step s (repeats one_or_more) _ tt refl (ap (λ z. z ∷ []) e) (add_quantifier s) refl
 token_follows s c question t e =
-    text_follows s _ _ (then_stands (questioned s)) (ap (λ z. z ∷ []) e) (question_follows s s.last refl)
+    text_follows s _ _ (then_stands (add_question s)) (ap (λ z. z ∷ []) e) (question_follows s s.last refl)
 token_follows s c caret t e = inr (edge at_start, tt, refl, ap (λ z. z ∷ []) e, refl, refl)
 token_follows s c dollar t e = inr (edge at_end, tt, refl, ap (λ z. z ∷ []) e, refl, refl)
 token_follows s c opening_token t e = goes s opening _ (ap (λ z. z ∷ []) (sym e))
-token_follows s c closing t e = after_step s closes _ tt refl (ap (λ z. z ∷ []) e) (closed s) refl
+token_follows s c closing t e = after_step s closes _ tt refl (ap (λ z. z ∷ []) e) (close_group s) refl
 token_follows s c point t e = inr (leaf dot, tt, refl, ap (λ z. z ∷ []) e, refl, refl)
 token_follows s c backslash t e = goes s escaping _ (ap (λ z. z ∷ []) (sym e))
 token_follows s c bracket t e = goes s class_opened _ (ap (λ z. z ∷ []) (sym e))
@@ -172,11 +173,11 @@ no_zero c false e h = refl
 no_zero c true e h = absurd (true≢false (sym (ap is_unknown h) ∙ ap (λ z. is_unknown (escape z)) (sym (same_char c (byte "0") e))))
 
 -- the number of one digit is not held
-one_digit_held : (c : ℕ) → is_digit c ≡ true → held (number (c ∷ [])) ≡ c - byte "0"
+one_digit_held : (c : ℕ) → is_digit c ≡ true → cap_number (number (c ∷ [])) ≡ c - byte "0"
 one_digit_held c h = held_small (c - byte "0") (by_digit c h)
   where
     -- a small number is not held
-    held_small : (n : ℕ) → n ≤ 9 → held (0 * 10 + n) ≡ n
+    held_small : (n : ℕ) → n ≤ 9 → cap_number (0 * 10 + n) ≡ n
     held_small n m = grind (arith, nat_tests)
 
     -- that of a digit is small
@@ -265,7 +266,7 @@ name_end_follows : (s : Standing) (g : Naming) (m : List NameChar) → IsNamePar
 name_end_follows s of_group [] h = tt
 name_end_follows s of_reference [] h = tt
 name_end_follows s of_group (y ∷ m) h =
-    after_step s (opens (group_of (named (y ∷ m)))) _ h refl refl (captured_within (with_name s (name_value (y ∷ m)))) refl
+    after_step s (opens (group_of (named (y ∷ m)))) _ h refl refl (open_capture_within (with_name s (name_value (y ∷ m)))) refl
 name_end_follows s of_reference (y ∷ m) h = inr (leaf (calls_for (y ∷ m)), h, refl, refl, refl, refl)
 
 -- behind the beginning of a lookbehind
@@ -320,8 +321,8 @@ name_coded_follows s g n v u (reading.makes d) h f w e =
 
 -- counts
 -- behind a whole count
-count_follows : (s : Standing) (q : Quantifier) (w : List ℕ) → IsRepetition q → quantifier_spelling q ≡ w → Follows s w (then_stands (quantified s))
-count_follows s q w f is = after_step s (repeats q) w f refl is (quantified s) refl
+count_follows : (s : Standing) (q : Quantifier) (w : List ℕ) → IsRepetition q → quantifier_spelling q ≡ w → Follows s w (then_stands (add_quantifier s))
+count_follows s q w f is = after_step s (repeats q) w f refl is (add_quantifier s) refl
 
 -- behind any character in the first number
 low_follows : (s : Standing) (ds : List ℕ) (c : ℕ) (k : CountToken) → count_token c ≡ k → char_of_count k c ≡ c → are_digits ds ≡ true
@@ -585,7 +586,7 @@ from_between : (c : ℕ) (cs : List ℕ) → Claim cs → (s : Standing) → is_
 from_between c cs ih s is = finish s [] c cs ih (next_in s between c) (next_follows s between [] c tt refl) is
 
 -- behind `(`, where no question mark follows
-from_group : (c : ℕ) (cs : List ℕ) → Claim cs → (s : Standing) (o : Option Standing) → captured_within s ≡ o
+from_group : (c : ℕ) (cs : List ℕ) → Claim cs → (s : Standing) (o : Option Standing) → open_capture_within s ≡ o
     → holds_of (λ u. is_read_from u cs) (option_and_then (λ t. on_token t (token c)) o) ≡ true → Read s (byte "(" ∷ c ∷ cs)
 from_group c cs ih s None e is = absurd (true≢false (sym is))
 from_group c cs ih s (Some u) e is =
@@ -594,16 +595,16 @@ from_group c cs ih s (Some u) e is =
 -- behind `(`, whatever follows
 from_opening : (c : ℕ) (cs : List ℕ) → Claim cs → (s : Standing) (b : Bool) → (c == byte "?") ≡ b
     → holds_of (λ u. is_read_from u cs) (on_group s c b) ≡ true → Read s (byte "(" ∷ c ∷ cs)
-from_opening c cs ih s false e is = from_group c cs ih s (captured_within s) refl is
+from_opening c cs ih s false e is = from_group c cs ih s (open_capture_within s) refl is
 from_opening c cs ih s true e is =
     finish s (byte "(" ∷ []) c cs ih (Some (at s extending)) (goes s extending _ (ap (λ z. byte "(" ∷ z ∷ []) (sym (same_char c (byte "?") e)))) is
 
 -- a number that is held may be held before one digit more too
-pub held_push : (n d : ℕ) → held (n * 10 + d) ≡ held (held n * 10 + d)
+pub held_push : (n d : ℕ) → cap_number (n * 10 + d) ≡ cap_number (cap_number n * 10 + d)
 held_push n d = by_test (nat_le n capture_limit) refl
   where
     -- by whether it is held
-    by_test : (b : Bool) → nat_le n capture_limit ≡ b → held (n * 10 + d) ≡ held ((if b then n else capture_limit) * 10 + d)
+    by_test : (b : Bool) → nat_le n capture_limit ≡ b → cap_number (n * 10 + d) ≡ cap_number ((if b then n else capture_limit) * 10 + d)
     by_test true e = refl
     by_test false e = grind (arith, nat_tests)
 
@@ -615,18 +616,18 @@ more_digits (d ∷ ds) c h k z = ((digits_push (d ∷ ds) c h.0 k, refl), z)
 
 -- in a back reference by a number
 from_reference : (c : ℕ) (cs : List ℕ) → Claim cs → (s : Standing) (ds : List ℕ) → AreDecimal ds → begins_with_zero ds ≡ false → (b : Bool) → is_digit c ≡ b
-    → holds_of (λ u. is_read_from u cs) (on_referring s (held (number ds)) c b) ≡ true → Read s (byte "\\" ∷ (ds ++ c ∷ cs))
+    → holds_of (λ u. is_read_from u cs) (on_referring s (cap_number (number ds)) c b) ≡ true → Read s (byte "\\" ∷ (ds ++ c ∷ cs))
 from_reference c cs ih s ds h z false e is =
-    prepend s (referred s (held (number ds))) (leaf (numbered ds)) (byte "\\" ∷ ds) (c ∷ cs) (h, z) e refl refl
-    (from_between c cs ih (referred s (held (number ds))) is)
+    prepend s (add_reference s (cap_number (number ds))) (leaf (numbered ds)) (byte "\\" ∷ ds) (c ∷ cs) (h, z) e refl refl
+    (from_between c cs ih (add_reference s (cap_number (number ds))) is)
 from_reference c cs ih s ds h z true e is =
     let longer = more_digits ds c h e z in
-    finish s (byte "\\" ∷ ds) c cs ih (Some (at s (referring (held (held (number ds) * 10 + (c - byte "0"))))))
-    (goes s (referring (held (held (number ds) * 10 + (c - byte "0")))) _ (
+    finish s (byte "\\" ∷ ds) c cs ih (Some (at s (referring (cap_number (cap_number (number ds) * 10 + (c - byte "0"))))))
+    (goes s (referring (cap_number (cap_number (number ds) * 10 + (c - byte "0")))) _ (
       ds ++ c ∷ [],
       longer.0,
       longer.1,
-      ap held (number_push 0 ds c) ∙ held_push (number ds) (c - byte "0"),
+      ap cap_number (number_push 0 ds c) ∙ held_push (number ds) (c - byte "0"),
       refl,
     )) is
 
@@ -666,10 +667,10 @@ ends_here s between w h is =
     (record { parts = []; behind = s; formed = tt; spelled = refl; way = refl; whole = is })
 ends_here s (referring n) w h is = record {
   parts = leaf (numbered h.0) ∷ [];
-  behind = referred s n;
+  behind = add_reference s n;
   formed = ((h.1, h.2), refl, tt);
   spelled = ap (λ z. z ++ []) (sym h.4);
-  way = ap (λ z. Some (referred s z)) h.3;
+  way = ap (λ z. Some (add_reference s z)) h.3;
   whole = is;
 }
 ends_here s escaping w h is = absurd (true≢false (sym is))

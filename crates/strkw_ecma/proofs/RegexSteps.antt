@@ -12,23 +12,25 @@ use Rattle.strkw_ecma.specs.Syntax.{capturing, plain_group, named, Enclosing, of
 use Rattle.strkw_ecma.specs.Regex.{Leaf, plain, dot, escaped, control_escape, set_escape, coded, property_escape, numbered, bracketed, Part, bar, edge, leaf}
 use Rattle.strkw_ecma.specs.Regex.{opens, closes, repeats, lazily, captures, names, numbers, calls, capture_limit}
 use Rattle.strkw_ecma.specs.Regex.{called as calls_for}
-use Rattle.strkw_ecma.specs.machine.Recognising.{Last, none, atom, counted, last_if, Standing, with_last, opened, captured, when, captured_within, with_name}
-use Rattle.strkw_ecma.specs.machine.Recognising.{called, greater, referred, closed_in, closed, quantified_behind, quantified, held}
+use Rattle.strkw_ecma.specs.machine.Recognising.{Last, none, atom, counted, last_if, Standing, with_last, open_group, open_capture, when, open_capture_within}
+use Rattle.strkw_ecma.specs.machine.Recognising.{with_name}
+use Rattle.strkw_ecma.specs.machine.Recognising.{add_call, greater_of, add_reference, close_group_in, close_group, add_quantifier_behind, add_quantifier}
+use Rattle.strkw_ecma.specs.machine.Recognising.{cap_number}
 use Rattle.strkw_ecma.proofs.RegexTrees.{Shape, closes_shape, repeats_shape, lazy_shape, shape_step, shapes}
 
 -- behind a leaf
 abbrev pub leaf_step : Standing → Leaf → Standing
-leaf_step s (numbered ds) = referred s (held (number ds))
-leaf_step s (calls_for n) = called s (name_value n)
+leaf_step s (numbered ds) = add_reference s (cap_number (number ds))
+leaf_step s (calls_for n) = add_call s (name_value n)
 leaf_step s l = with_last s atom
 
 -- behind what opens a group or a lookaround
 abbrev pub open_step : Standing → Enclosing → Option Standing
-open_step s (of_group capturing) = captured_within s
-open_step s (of_group plain_group) = Some (opened s true)
-open_step s (of_group (named n)) = captured_within (with_name s (name_value n))
-open_step s (of_lookbehind b) = Some (opened s false)
-open_step s (of_lookahead b) = Some (opened s false)
+open_step s (of_group capturing) = open_capture_within s
+open_step s (of_group plain_group) = Some (open_group s true)
+open_step s (of_group (named n)) = open_capture_within (with_name s (name_value n))
+open_step s (of_lookbehind b) = Some (open_group s false)
+open_step s (of_lookahead b) = Some (open_group s false)
 
 -- behind the `?` that makes a quantifier lazy
 abbrev pub lazied : Standing → Last → Option Standing
@@ -42,8 +44,8 @@ step s bar = Some (with_last s none)
 step s (edge e) = Some (with_last s none)
 step s (leaf l) = Some (leaf_step s l)
 step s (opens e) = open_step s e
-step s closes = closed s
-step s (repeats q) = quantified s
+step s closes = close_group s
+step s (repeats q) = add_quantifier s
 step s lazily = lazied s s.last
 
 -- behind parts, one behind the other
@@ -65,7 +67,7 @@ pub record Reached (s : Standing) (ps : List Part) (t : Standing) : Type 0 where
   pub most : (n : ℕ) → n < capture_limit → nat_le t.greatest n ≡ (nat_le s.greatest n && are_within n (numbers ps))
 
 -- whether a number is above another that is below the limit does not change where it is held
-held_within : (m n : ℕ) → n < capture_limit → nat_le (held m) n ≡ nat_le m n
+held_within : (m n : ℕ) → n < capture_limit → nat_le (cap_number m) n ≡ nat_le m n
 held_within m n h = by_test (nat_le m capture_limit) refl
   where
     -- by whether it is held
@@ -74,7 +76,7 @@ held_within m n h = by_test (nat_le m capture_limit) refl
     by_test false e = grind (arith, nat_tests)
 
 -- the greater of two numbers is not above a third exactly where neither is
-greater_within : (k m n : ℕ) → nat_le (greater k m) n ≡ (nat_le k n && (nat_le m n && true))
+greater_within : (k m n : ℕ) → nat_le (greater_of k m) n ≡ (nat_le k n && (nat_le m n && true))
 greater_within k m n = by_test (nat_le k m) refl
   where
     -- by which is the greater
@@ -130,7 +132,7 @@ module _ (s : Standing) (small : s.captures < capture_limit) where
     groups_named = sym (append-nil s.names);
     asked = sym (append-nil s.calls);
     most = λ k h.
-        greater_within s.greatest (held (number ds)) k ∙ ap (λ z. nat_le s.greatest k && (z && true)) (held_within (number ds) k h);
+        greater_within s.greatest (cap_number (number ds)) k ∙ ap (λ z. nat_le s.greatest k && (z && true)) (held_within (number ds) k h);
   }
   leaf_reaches (calls_for n) = record {
     shape = refl;
@@ -144,7 +146,7 @@ module _ (s : Standing) (small : s.captures < capture_limit) where
   -- so does what opens a group or a lookaround, where there are not too many
   open_reaches : (e : Enclosing) → IfSome (open_step s e) (Reached s (opens e ∷ []))
   open_reaches (of_group capturing) =
-      when_goes _ (nat_lt (s.captures + 1) capture_limit) (Some (captured s)) (λ b. record {
+      when_goes _ (nat_lt (s.captures + 1) capture_limit) (Some (open_capture s)) (λ b. record {
         shape = refl;
         counts = omega arith;
         small = ltb-true (s.captures + 1) capture_limit b;
@@ -155,7 +157,7 @@ module _ (s : Standing) (small : s.captures < capture_limit) where
   open_reaches (of_group plain_group) =
       same_facts (opens (of_group plain_group)) (true ∷ s.groups) none refl refl refl refl refl
   open_reaches (of_group (named n)) =
-      when_goes _ (nat_lt (s.captures + 1) capture_limit) (Some (captured (with_name s (name_value n)))) (λ b. record {
+      when_goes _ (nat_lt (s.captures + 1) capture_limit) (Some (open_capture (with_name s (name_value n)))) (λ b. record {
         shape = refl;
         counts = omega arith;
         small = ltb-true (s.captures + 1) capture_limit b;
@@ -167,14 +169,14 @@ module _ (s : Standing) (small : s.captures < capture_limit) where
   open_reaches (of_lookahead b) = same_facts (opens (of_lookahead b)) (false ∷ s.groups) none refl refl refl refl refl
 
   -- and what closes one, where one is open
-  close_reaches : (gs : List Bool) → s.groups ≡ gs → IfSome (closed_in s gs) (Reached s (closes ∷ []))
+  close_reaches : (gs : List Bool) → s.groups ≡ gs → IfSome (close_group_in s gs) (Reached s (closes ∷ []))
   close_reaches [] e = tt
   close_reaches (q ∷ gs) e = same_facts closes gs (last_if q) (ap closes_shape e) refl refl refl refl
 
   -- and a quantifier, where one may stand
   repeat_reaches : (x : Last) → s.last ≡ x → (p : Part) → shape_step s.groups s.last p ≡ repeats_shape s.groups s.last
       → captures (p ∷ []) ≡ 0 → names (p ∷ []) ≡ [] → calls (p ∷ []) ≡ [] → numbers (p ∷ []) ≡ []
-      → IfSome (quantified_behind s x) (Reached s (p ∷ []))
+      → IfSome (add_quantifier_behind s x) (Reached s (p ∷ []))
   repeat_reaches none e p w c n l m = tt
   repeat_reaches atom e p w c n l m = same_facts p s.groups counted (w ∙ ap (repeats_shape s.groups) e) c n l m
   repeat_reaches counted e p w c n l m = tt
@@ -335,21 +337,21 @@ goes_on (leaf l ∷ ps) s h w =
     (ap (λ z. is_some (shapes z (leaf_step s l).last ps)) leaves.0 ∙ ap (λ z. is_some (shapes s.groups z ps)) leaves.1 ∙ h)
     (subst (λ z. z + captures ps < capture_limit) (sym leaves.2) w)
 goes_on (opens (of_group capturing) ∷ ps) s h w =
-    let rest = goes_on ps (captured s) h (omega (arith, w)) in
-    (rest.0, ap (λ b. option_and_then (λ t. steps t ps) (when b (Some (captured s)))) (few_goes s.captures (captures ps) w) ∙ rest.1)
-goes_on (opens (of_group plain_group) ∷ ps) s h w = goes_on ps (opened s true) h w
+    let rest = goes_on ps (open_capture s) h (omega (arith, w)) in
+    (rest.0, ap (λ b. option_and_then (λ t. steps t ps) (when b (Some (open_capture s)))) (few_goes s.captures (captures ps) w) ∙ rest.1)
+goes_on (opens (of_group plain_group) ∷ ps) s h w = goes_on ps (open_group s true) h w
 goes_on (opens (of_group (named n)) ∷ ps) s h w =
-    let inner = captured (with_name s (name_value n)) in
+    let inner = open_capture (with_name s (name_value n)) in
     let rest = goes_on ps inner h (omega (arith, w)) in
     (rest.0, ap (λ b. option_and_then (λ t. steps t ps) (when b (Some inner))) (few_goes s.captures (captures ps) w) ∙ rest.1)
-goes_on (opens (of_lookbehind b) ∷ ps) s h w = goes_on ps (opened s false) h w
-goes_on (opens (of_lookahead b) ∷ ps) s h w = goes_on ps (opened s false) h w
+goes_on (opens (of_lookbehind b) ∷ ps) s h w = goes_on ps (open_group s false) h w
+goes_on (opens (of_lookahead b) ∷ ps) s h w = goes_on ps (open_group s false) h w
 goes_on (closes ∷ ps) s h w = by_groups (goes_on ps) s.groups h
   where
     -- by what is open
     by_groups : ((u : Standing) → is_some (shapes u.groups u.last ps) ≡ true → u.captures + captures ps < capture_limit → Goes u ps)
         → (gs : List Bool) → is_some (option_and_then (λ (z : Shape). shapes z.0 z.1 ps) (closes_shape gs)) ≡ true
-        → ((t : Standing) × (option_and_then (λ u. steps u ps) (closed_in s gs) ≡ Some t))
+        → ((t : Standing) × (option_and_then (λ u. steps u ps) (close_group_in s gs) ≡ Some t))
     by_groups rest [] k = absurd (true≢false (sym k))
     by_groups rest (q ∷ gs) k = rest (record {
       groups = gs;
@@ -364,7 +366,7 @@ goes_on (repeats q ∷ ps) s h w = by_last (goes_on ps) s.last h
     -- by the last term
     by_last : ((u : Standing) → is_some (shapes u.groups u.last ps) ≡ true → u.captures + captures ps < capture_limit → Goes u ps)
         → (x : Last) → is_some (option_and_then (λ (z : Shape). shapes z.0 z.1 ps) (repeats_shape s.groups x)) ≡ true
-        → ((t : Standing) × (option_and_then (λ u. steps u ps) (quantified_behind s x) ≡ Some t))
+        → ((t : Standing) × (option_and_then (λ u. steps u ps) (add_quantifier_behind s x) ≡ Some t))
     by_last rest none k = absurd (true≢false (sym k))
     by_last rest atom k = rest (with_last s counted) k w
     by_last rest counted k = absurd (true≢false (sym k))

@@ -13,7 +13,7 @@ use Rattle.strkw_ecma.specs.machine.Makers.{value_if, hex_with}
 use Rattle.strkw_ecma.specs.machine.CodeReading.{value_or}
 use Rattle.strkw_ecma.specs.machine.Recognising.{Form, unit_form, other_form, NumberPart, letter_awaited, unit_opened, digits_of}
 use Rattle.strkw_ecma.specs.machine.Recognising.{point_opened, NumberRead, no_number, number_goes, number_ends}
-use Rattle.strkw_ecma.specs.machine.Recognising.{digit_read, digit_or_none, number_if}
+use Rattle.strkw_ecma.specs.machine.Recognising.{read_digit, digit_or_none, number_if}
 use Rattle.strkw_ecma.specs.machine.Recognising.{on_unit, point_digit, on_point, number_next}
 use Rattle.strkw_ecma.proofs.Letters.{same_char}
 use Rattle.strkw_ecma.proofs.CodeReadings.{wanted_count, hex_push_digit}
@@ -82,7 +82,7 @@ whole_number other_form ds h l m = (byte_code ds, ((h, l), m), refl, refl, refl)
 
 -- what is read of digits, where some are still to come
 digits_read : (f : Form) (w : Wanted) (ds : List ℕ) → are_hex_digits ds ≡ true → length ds + wanted_count w ≡ form_count f + 1
-    → hex_number ds ≤ max_code_point → NumberReadText (digit_read f w (hex_number ds)) (form_letter f ∷ ds)
+    → hex_number ds ≤ max_code_point → NumberReadText (read_digit f w (hex_number ds)) (form_letter f ∷ ds)
 digits_read f one_more ds h l m = whole_number f ds h (omega (arith, l)) m
 digits_read f two_more ds h l m = (ds, h, omega (arith, l), refl, refl)
 digits_read f three_more ds h l m = (ds, h, omega (arith, l), refl, refl)

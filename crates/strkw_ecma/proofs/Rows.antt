@@ -9,8 +9,8 @@ use Rattle.std.proofs.lemmas.Nat.{mul-add-lt, div-mul-add}
 use Rattle.std.proofs.lemmas.Option.{none-some, same_Some, slice_get_within, slice_get-get_or}
 use Rattle.strkw_ecma.specs.Tree.{Pattern}
 use Rattle.strkw_ecma.specs.Meaning.{is_word, is_edge}
-use Rattle.strkw_ecma.specs.machine.Marks.{leaves, step, marked}
-use Rattle.strkw_ecma.specs.machine.Table.{entry_at, found, next_row, row_after, marks_in, IsStateOf, IsBehind, IsEntry, IsRow, AreRows}
+use Rattle.strkw_ecma.specs.machine.Marks.{leaves, step, mark_classes}
+use Rattle.strkw_ecma.specs.machine.Table.{entry_at, found_row, next_row, row_after, marks_in, IsStateOf, IsBehind, IsEntry, IsRow, AreRows}
 use Rattle.strkw_ecma.specs.machine.Table.{IsFront, IsDraft, AreEntries, SaysSame, SayTheSame}
 use Rattle.strkw_ecma.specs.declared.states.State.{State}
 
@@ -74,7 +74,7 @@ row_grows : (p : Pattern) (samples before after : List ℕ) (states later : List
     → row + length samples < length before → IsRow p samples before states s row → IsRow p samples after later s row
 row_grows p samples before after states later s row entries more within right =
     record {
-      ends = ap (λ (e : ℕ). e == found) (entry_stays before after (row + length samples) entries within) ∙ right.ends;
+      ends = ap (λ (e : ℕ). e == found_row) (entry_stays before after (row + length samples) entries within) ∙ right.ends;
       reads = λ k h.
           subst (λ (e : ℕ). IsEntry p (length samples) later s row (get_or samples k 0) e)
           (sym (entry_stays before after (row + k) entries (omega (arith, h, within))))
@@ -92,16 +92,16 @@ one_longer before after e longer = ap length longer ∙ length-append before (e 
 
 -- the entry that says found is right where the pattern is left
 pub entry_finds : (p : Pattern) (end : ℕ) (states : List State) (s : State) (row c : ℕ) → leaves s.last (Some c) (marks_in p s) true ≡ true
-    → IsEntry p end states s row c found
+    → IsEntry p end states s row c found_row
 entry_finds p end states s row c is = record { finds = sym is; goes = λ none. absurd (true≢false (sym is ∙ none)) }
 
 -- the entry that is the place of the row of a number is right where the pattern is not left, and the state of the number is behind the character
 pub entry_leads : (p : Pattern) (end : ℕ) (states : List State) (s : State) (row c entry number : ℕ) (ms : List Bool)
-    → leaves s.last (Some c) (marks_in p s) true ≡ false → marked ms p ≡ step s.last (Some c) (marks_in p s) true → IsStateOf p states number ms c
+    → leaves s.last (Some c) (marks_in p s) true ≡ false → mark_classes ms p ≡ step s.last (Some c) (marks_in p s) true → IsStateOf p states number ms c
     → (entry ≡ number * (end + 1)) × (entry < next_row) → IsEntry p end states s row c entry
 entry_leads p end states s row c entry number ms none stepped t place =
     let low = place.1 in
-    let not_found : (entry == found) ≡ false = search rules in
+    let not_found : (entry == found_row) ≡ false = search rules in
     let no_next_row : (entry == next_row) ≡ false = search rules in
     let after : row_after end row entry ≡ entry = ap (λ (b : Bool). if b then row + (end + 1) else entry) no_next_row in
     record {
@@ -163,7 +163,7 @@ entry_added p samples before after longer states later last number columns c e d
 -- behind the entries of a state and all columns that for the end of the text makes one more row
 pub row_added : (p : Pattern) (samples before after longer : List ℕ) (states later : List State) (number e : ℕ) (s : State)
     → IsDraft p samples before states number → AreEntries p samples before after states later number (length samples) → number < length states
-    → slice_get later number ≡ Some s → (e == found) ≡ leaves s.last None (marks_in p s) true → longer ≡ after ++ e ∷ []
+    → slice_get later number ≡ Some s → (e == found_row) ≡ leaves s.last None (marks_in p s) true → longer ≡ after ++ e ∷ []
     → IsDraft p samples longer later (number + 1)
 row_added p samples before after longer states later number e s draft done within there ends added =
     let end = length samples in
@@ -178,7 +178,7 @@ row_added p samples before after longer states later number e s draft done withi
             s,
             there,
             record {
-              ends = ap (λ (x : ℕ). x == found) last ∙ ends;
+              ends = ap (λ (x : ℕ). x == found_row) last ∙ ends;
               reads = λ k h.
                   subst (λ (x : ℕ). IsEntry p end later s row (get_or samples k 0) x)
                   (ap (λ (i : ℕ). get_or after (i + k) 0) draft.placed
@@ -212,7 +212,7 @@ row_is end number column within = ap (λ (n : ℕ). n * (end + 1)) (div-mul-add 
 -- the entry that leads to the row behind its own says the same as the place of that row
 leads_on : (end row e : ℕ) → e ≡ row + (end + 1) → e < next_row → SaysSame end row e next_row
 leads_on end row e is low =
-    let not_found : (e == found) ≡ false = search rules in
+    let not_found : (e == found_row) ≡ false = search rules in
     let no_next_row : (e == next_row) ≡ false = search rules in
     (not_found, ap (λ (b : Bool). if b then row + (end + 1) else e) no_next_row ∙ is)
 

@@ -5,12 +5,12 @@ use Rattle.std.proofs.lemmas.List.{append_assoc}
 use Rattle.std.proofs.lemmas.Nat.{mul-le}
 use Rattle.strkw_ecma.specs.Tree.{Pattern, empty, class, look, cat, alt, star, plus, lookbehind, lookahead}
 use Rattle.strkw_ecma.specs.Meaning.{Found}
-use Rattle.strkw_ecma.specs.Mirror.{mirror, mirror_look, facing}
+use Rattle.strkw_ecma.specs.Mirror.{mirror, mirror_look, mirror_if}
 use Rattle.strkw_ecma.specs.Program.{is_empty, is_class, alternatives}
 use Rattle.strkw_ecma.specs.Size.{steps_of, steps, spread}
 use Rattle.strkw_ecma.specs.machine.Asides.{Quest, AreToldAs, IsAside, AreAsides}
 use Rattle.strkw_ecma.specs.machine.Counted.{IsSoughtWithin}
-use Rattle.strkw_ecma.specs.machine.Marks.{unmarked}
+use Rattle.strkw_ecma.specs.machine.Marks.{is_unmarked}
 use Rattle.strkw_ecma.specs.machine.Passes.{Alike}
 use Rattle.strkw_ecma.specs.machine.Seeking.{Seeking}
 use Rattle.strkw_ecma.specs.machine.Slots.{slot, aside, spots}
@@ -99,7 +99,7 @@ same_tells b r s t same one = λ fs xs are.
     }
 
 -- that of a lookahead: its own, told by those of its lookaheads
-ahead_tells : (b n : Bool) (q r : Pattern) (t : ℕ) → Alike r (mirror q) → unmarked r ≡ true → CanTell (not b) r t
+ahead_tells : (b n : Bool) (q r : Pattern) (t : ℕ) → Alike r (mirror q) → is_unmarked r ≡ true → CanTell (not b) r t
     → CanTell b (lookahead n q) (t + steps (aside r))
 ahead_tells b n q r t like bare can = λ fs xs are.
     let one = can fs xs are in
@@ -125,17 +125,17 @@ ahead_tells b n q r t like bare can = λ fs xs are.
 -- The searches for a pattern, and what is left of it, take no more steps than are counted.
 pub record IsTold (b : Bool) (p : Pattern) : Type 0 where
   pub t : ℕ
-  pub can : CanTell b (facing b p) t
-  pub fits : t + steps (aside (facing b p)) ≤ steps (spread p)
-  pub beside : t + steps_of (alternatives (aside (facing b p))) ≤ steps_of (alternatives (spread p))
+  pub can : CanTell b (mirror_if b p) t
+  pub fits : t + steps (aside (mirror_if b p)) ≤ steps (spread p)
+  pub beside : t + steps_of (alternatives (aside (mirror_if b p))) ≤ steps_of (alternatives (spread p))
 
 -- what is nothing, or a class, is so from either end
-facing_nothing : (b : Bool) (p : Pattern) → is_empty (facing b p) ≡ is_empty p
+facing_nothing : (b : Bool) (p : Pattern) → is_empty (mirror_if b p) ≡ is_empty p
 facing_nothing false p = refl
 facing_nothing true p = mirror_nothing p
 
 -- a pattern is a class from either end exactly where it is one
-facing_class : (b : Bool) (p : Pattern) → is_class (facing b p) ≡ is_class p
+facing_class : (b : Bool) (p : Pattern) → is_class (mirror_if b p) ≡ is_class p
 facing_class false p = refl
 facing_class true p = mirror_class p
 
@@ -196,7 +196,7 @@ module _ (p q : Pattern) where
   )
 
 -- each pattern is told so, from either end
-pub told_so : (p : Pattern) → unmarked p ≡ true → (b : Bool) → IsTold b p
+pub told_so : (p : Pattern) → is_unmarked p ≡ true → (b : Bool) → IsTold b p
 told_so empty h false = record { t = 0; can = none_needed false empty [] (λ fs. tt); fits = omega arith; beside = omega arith }
 told_so empty h true = record { t = 0; can = none_needed true empty [] (λ fs. tt); fits = omega arith; beside = omega arith }
 told_so (class m n rs) h false =
@@ -206,15 +206,15 @@ told_so (class m n rs) h true =
 told_so (look l) h false = record { t = 0; can = none_needed false (look l) [] (λ fs. tt); fits = omega arith; beside = omega arith }
 told_so (look l) h true =
     record { t = 0; can = none_needed true (look (mirror_look l)) [] (λ fs. tt); fits = omega arith; beside = omega arith }
-told_so (cat p q) h b = told_cat p q b (told_so p (and_left _ _ h) b) (told_so q (and_right (unmarked p) _ h) b)
+told_so (cat p q) h b = told_cat p q b (told_so p (and_left _ _ h) b) (told_so q (and_right (is_unmarked p) _ h) b)
 told_so (alt p q) h false =
     let u = told_so p (and_left _ _ h) false in
-    let w = told_so q (and_right (unmarked p) _ h) false in
+    let w = told_so q (and_right (is_unmarked p) _ h) false in
     let all = told_alt p q false p q u.t w.t refl refl u.can w.can u.beside w.fits in
     record { t = u.t + w.t; can = all.0; fits = all.1; beside = all.2 }
 told_so (alt p q) h true =
     let u = told_so p (and_left _ _ h) true in
-    let w = told_so q (and_right (unmarked p) _ h) true in
+    let w = told_so q (and_right (is_unmarked p) _ h) true in
     let all = told_alt p q true (mirror p) (mirror q) u.t w.t (mirror_nothing p) (mirror_class q) u.can w.can u.beside w.fits in
     record { t = u.t + w.t; can = all.0; fits = all.1; beside = all.2 }
 told_so (star p) h false =
@@ -267,7 +267,7 @@ told_so (lookahead n p) h true =
     record { t = u.t; can = same_tells true (mirror p) (lookbehind n (mirror p)) u.t refl u.can; fits = fits; beside = fits }
 
 -- so a pattern is sought within twice its steps with a mark beside what each lookaround looks for
-pub sought_within : (most : ℕ) (p : Pattern) (text : List ℕ) → unmarked p ≡ true → 2 * steps (spread p) ≤ most → IsSoughtWithin most p text
+pub sought_within : (most : ℕ) (p : Pattern) (text : List ℕ) → is_unmarked p ≡ true → 2 * steps (spread p) ≤ most → IsSoughtWithin most p text
 sought_within most p text bare few =
     let told = told_so p bare false in
     let tells = told.can [] [] tt in

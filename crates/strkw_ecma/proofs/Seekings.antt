@@ -6,15 +6,15 @@ use Rattle.std.proofs.lemmas.List.{append_assoc, get_or_past}
 use Rattle.strkw_ecma.specs.Tree.{Pattern}
 use Rattle.strkw_ecma.specs.Meaning.{Found}
 use Rattle.strkw_ecma.specs.Glances.{are_told}
-use Rattle.strkw_ecma.specs.Mirror.{facing, along}
+use Rattle.strkw_ecma.specs.Mirror.{mirror_if, along}
 use Rattle.strkw_ecma.specs.machine.Asides.{Quest, IsAside, AreAsides, IsSmall, AreSmall, SetsAside}
 use Rattle.strkw_ecma.specs.machine.Bits.{bits_of, rows_of}
-use Rattle.strkw_ecma.specs.machine.Marks.{leaves, step, unmarked}
+use Rattle.strkw_ecma.specs.machine.Marks.{leaves, step, is_unmarked}
 use Rattle.strkw_ecma.specs.machine.Passes.{Alike}
 use Rattle.strkw_ecma.specs.machine.Search.{search_from, found_in}
 use Rattle.strkw_ecma.specs.machine.Sight.{depth, ends_by, begins_at}
-use Rattle.strkw_ecma.specs.machine.Seekers.{seeking, seekings, quest, quests, IsFit, AreFit}
-use Rattle.strkw_ecma.specs.machine.Seeking.{Seeking, said, ends_from, ends_within, is_sought}
+use Rattle.strkw_ecma.specs.machine.Seekers.{seeking_of, seekings, quest, quests, IsFit, AreFit}
+use Rattle.strkw_ecma.specs.machine.Seeking.{Seeking, row_answer, ends_from, ends_within, is_sought}
 use Rattle.strkw_ecma.specs.machine.Slots.{told_by}
 use Rattle.strkw_ecma.specs.declared.asides.Aside.{Aside}
 use Rattle.strkw_ecma.specs.declared.bits.Bits.{Bits}
@@ -26,15 +26,15 @@ use Rattle.strkw_ecma.proofs.Spread.{aside_fit}
 
 -- a turn: the next character is c, `q` has the marks told, and `r` those behind the character
 module _ (rows : List (List Bool)) (ts : List (Option ℕ)) (p : Pattern) (last : Option ℕ) (c : ℕ) (left rest : List ℕ) (begins : left ≡ c ∷ rest)
-    (ahead : ℕ) (ahead_is : ahead ≡ length left) (q : Pattern) (q_is : q ≡ told_by (said rows ahead) ts p)
+    (ahead : ℕ) (ahead_is : ahead ≡ length left) (q : Pattern) (q_is : q ≡ told_by (row_answer rows ahead) ts p)
     (e : Bool) (e_is : e ≡ leaves last (Some c) q true) (r : Pattern) (r_is : r ≡ step last (Some c) q true) where
   -- the pattern with the marks that the rows tell here
   abbrev here : Pattern
-  here = told_by (said rows (suc (length rest))) ts p
+  here = told_by (row_answer rows (suc (length rest))) ts p
 
   -- the pattern that is asked is that one
   told_here : q ≡ here
-  told_here = q_is ∙ ap (λ (n : ℕ). told_by (said rows n) ts p) (ahead_is ∙ ap length begins)
+  told_here = q_is ∙ ap (λ (n : ℕ). told_by (row_answer rows n) ts p) (ahead_is ∙ ap length begins)
 
   -- so it is that one of which the answer tells
   answer_here : e ≡ leaves last (Some c) here true
@@ -70,9 +70,9 @@ module _ (rows : List (List Bool)) (ts : List (Option ℕ)) (p : Pattern) (last 
 
 -- at the end of the text
 module _ (rows : List (List Bool)) (ts : List (Option ℕ)) (p : Pattern) (last : Option ℕ) (left : List ℕ) (none : left ≡ [])
-    (q : Pattern) (q_is : q ≡ told_by (said rows 0) ts p) (e : Bool) (e_is : e ≡ leaves last None q true) where
+    (q : Pattern) (q_is : q ≡ told_by (row_answer rows 0) ts p) (e : Bool) (e_is : e ≡ leaves last None q true) where
   -- the last answer is that of the marks that the rows tell there
-  end_here : e ≡ leaves last None (told_by (said rows 0) ts p) true
+  end_here : e ≡ leaves last None (told_by (row_answer rows 0) ts p) true
   end_here = e_is ∙ ap (λ (z : Pattern). leaves last None z true) q_is
 
   -- it is the last of the answers
@@ -105,7 +105,7 @@ row_none (x ∷ bs) (suc k) h = row_none bs k (omega (arith, h))
 -- seekers one behind another
 pub seekings_append : (xs ys : List Seeker) → seekings (xs ++ ys) ≡ seekings xs ++ seekings ys
 seekings_append [] ys = refl
-seekings_append (x ∷ xs) ys = ap (λ (l : List Seeking). seeking x ∷ l) (seekings_append xs ys)
+seekings_append (x ∷ xs) ys = ap (λ (l : List Seeking). seeking_of x ∷ l) (seekings_append xs ys)
 
 -- the quests of one more are theirs and its own
 pub quests_append : (xs : List Aside) (x : Aside) → quests (xs ++ (x ∷ [])) ≡ quests xs ++ (quest x ∷ [])
@@ -146,12 +146,12 @@ along_it false t far faced = refl
 along_it true t far faced = absurd (true≢false (sym faced ∙ far))
 
 -- and the seekers of what is put aside of it find it
-pub found_told : (p : Pattern) (b : Bool) (text : List ℕ) → are_told p ≡ false → (not b || are_told p) ≡ true → unmarked p ≡ true
+pub found_told : (p : Pattern) (b : Bool) (text : List ℕ) → are_told p ≡ false → (not b || are_told p) ≡ true → is_unmarked p ≡ true
     → (xs : List Seeking) (x : Seeking) (ys : List Seeking) (y : Seeking) → SetsAside b p x [] xs → ys ≡ xs → y ≡ x
     → is_sought ys y text ≡ found_in p (along b text)
 found_told p b text far faced bare xs x ys y set same one =
     let way : b ≡ false = along_it b (are_told p) far faced in
-    let like : Alike set.made p = subst (λ (c : Bool). Alike set.made (facing c p)) way set.alike in
+    let like : Alike set.made p = subst (λ (c : Bool). Alike set.made (mirror_if c p)) way set.alike in
     let found : IsTrue (is_sought xs x text) ↔ Found set.made (along b text) =
     is_sought_right text xs set.added x record { backward = b; pattern = set.made } set.asides set.is in
     let right = found_in_right p (along b text) bare in

@@ -1,12 +1,12 @@
--- The equations of `outlined`, one for each variant.
+-- The equations of `outline_pattern`, one for each variant.
 use Rattle.std.proofs.Common.{◌≡◌, ℕ, zero, suc, ◌-◌, nat_eq, ◌==◌, Bool, true, false, ◌&&◌, [], Vec, Box, Global, refl, sym, ap, ◌∙◌, true≢false, arith}
 use Rattle.std.proofs.lemmas.Bool.Decides.{nat_tests}
 use Rattle.strkw_ecma.specs.Tree.{Pattern, empty, class, look, cat, alt, lookbehind, lookahead, start, end, boundary, no_boundary}
-use Rattle.strkw_ecma.specs.Patterns.{Times, any_times, some_times, once_at_most, exact_times, least_times, range_times, repeated, quantified_pattern}
+use Rattle.strkw_ecma.specs.Patterns.{Times, any_times, some_times, once_at_most, exact_times, least_times, range_times, repetition, quantified_pattern}
 use Rattle.strkw_ecma.specs.Glances.{is_glance, are_told}
 use Rattle.strkw_ecma.specs.Program.{is_class, is_empty, glance, program, alternatives}
 use Rattle.strkw_ecma.specs.declared.tree.CharSet.{CharSet}
-use Rattle.strkw_ecma.specs.machine.Shape.{outlined, outlined_node, quantifier_of, is_never}
+use Rattle.strkw_ecma.specs.machine.Shape.{outline_pattern, outline_node, quantifier_of, is_never}
 use Rattle.strkw_ecma.specs.declared.outline.Quantifier.{Quantifier}
 use Rattle.strkw_ecma.specs.declared.outline.Quantifier.TheVariants.{ZeroOrMore, OneOrMore, ZeroOrOne, Exactly, AtLeast, FromTo}
 use Rattle.strkw_ecma.specs.declared.outline.Outline.{Outline, Outline-F, roll-Outline, map-Outline, fold-roll-Outline}
@@ -18,57 +18,57 @@ use Rattle.strkw_ecma.proofs.Steps.{and_true, and_left}
 
 -- an outline stands for what its node does, with the patterns of its children
 by_node : (node : Outline-F Outline) (o : Outline) → roll-Outline node ≡ o
-    → outlined o ≡ outlined_node (map-Outline Outline Pattern outlined node)
-by_node node o rolls = ap outlined (sym rolls) ∙ fold-roll-Outline Pattern outlined_node node
+    → outline_pattern o ≡ outline_node (map-Outline Outline Pattern outline_pattern node)
+by_node node o rolls = ap outline_pattern (sym rolls) ∙ fold-roll-Outline Pattern outline_node node
 
 -- the empty outline stands for the empty pattern
-pub outlined-Empty : outlined Empty ≡ empty
+pub outlined-Empty : outline_pattern Empty ≡ empty
 outlined-Empty = by_node Outline-F.Empty _ rolls-Empty
 
 -- that of `^` stands for its assertion
-pub outlined-Start : outlined Start ≡ look start
+pub outlined-Start : outline_pattern Start ≡ look start
 outlined-Start = by_node Outline-F.Start _ rolls-Start
 
 -- and that of `$`
-pub outlined-End : outlined End ≡ look end
+pub outlined-End : outline_pattern End ≡ look end
 outlined-End = by_node Outline-F.End _ rolls-End
 
 -- and that of `\b`
-pub outlined-Boundary : outlined Boundary ≡ look boundary
+pub outlined-Boundary : outline_pattern Boundary ≡ look boundary
 outlined-Boundary = by_node Outline-F.Boundary _ rolls-Boundary
 
 -- and that of `\B`
-pub outlined-NoBoundary : outlined NoBoundary ≡ look no_boundary
+pub outlined-NoBoundary : outline_pattern NoBoundary ≡ look no_boundary
 outlined-NoBoundary = by_node Outline-F.NoBoundary _ rolls-NoBoundary
 
 -- that of a class stands for the class without a mark
 pub outlined-Class : (negated : Bool) (sets : Vec CharSet Global)
-    → outlined (Class negated sets) ≡ class false negated sets.items
+    → outline_pattern (Class negated sets) ≡ class false negated sets.items
 outlined-Class negated sets = by_node (Outline-F.Class negated sets) _ (rolls-Class negated sets)
 
 -- two outlines one behind the other stand for their patterns one behind the other
 pub outlined-Then : (first second : Box Outline Global)
-    → outlined (Then first second) ≡ cat (outlined first.value) (outlined second.value)
+    → outline_pattern (Then first second) ≡ cat (outline_pattern first.value) (outline_pattern second.value)
 outlined-Then first second = by_node (Outline-F.Then first second) _ (rolls-Then first second)
 
 -- two that are alternatives stand for their patterns as alternatives
 pub outlined-Or : (one other : Box Outline Global)
-    → outlined (Or one other) ≡ alt (outlined one.value) (outlined other.value)
+    → outline_pattern (Or one other) ≡ alt (outline_pattern one.value) (outline_pattern other.value)
 outlined-Or one other = by_node (Outline-F.Or one other) _ (rolls-Or one other)
 
 -- a repeated outline stands for its pattern with that quantifier
 pub outlined-Repeated : (q : Quantifier) (body : Box Outline Global)
-    → outlined (Repeated q body) ≡ quantified_pattern (quantifier_of q) (outlined body.value)
+    → outline_pattern (Repeated q body) ≡ quantified_pattern (quantifier_of q) (outline_pattern body.value)
 outlined-Repeated q body = by_node (Outline-F.Repeated q body) _ (rolls-Repeated q body)
 
 -- what stands before a place stands for a lookbehind of its pattern
 pub outlined-Behind : (negated : Bool) (body : Box Outline Global)
-    → outlined (Behind negated body) ≡ lookbehind negated (outlined body.value)
+    → outline_pattern (Behind negated body) ≡ lookbehind negated (outline_pattern body.value)
 outlined-Behind negated body = by_node (Outline-F.Behind negated body) _ (rolls-Behind negated body)
 
 -- and that of a lookahead for one of its pattern
 pub outlined-Ahead : (negated : Bool) (body : Box Outline Global)
-    → outlined (Ahead negated body) ≡ lookahead negated (outlined body.value)
+    → outline_pattern (Ahead negated body) ≡ lookahead negated (outline_pattern body.value)
 outlined-Ahead negated body = by_node (Outline-F.Ahead negated body) _ (rolls-Ahead negated body)
 
 -- the equations of outlines without children
@@ -85,7 +85,7 @@ no_class (exact_times (suc n)) p = refl
 no_class _ p = refl
 
 -- and is nothing where it is so with no copies
-pub is_no_copy : (n : ℕ) (p : Pattern) → nat_eq n 0 ≡ is_empty (repeated n p)
+pub is_no_copy : (n : ℕ) (p : Pattern) → nat_eq n 0 ≡ is_empty (repetition n p)
 is_no_copy zero p = refl
 is_no_copy (suc n) p = grind (arith, nat_tests)
 
@@ -99,7 +99,7 @@ same_beside (Exactly (suc n)) p h = refl
 same_beside _ p h = refl
 
 -- a glance of what is repeated a number of times asks nothing
-no_glance : (n : ℕ) (p : Pattern) → glance (repeated n p) ≡ []
+no_glance : (n : ℕ) (p : Pattern) → glance (repetition n p) ≡ []
 no_glance zero p = refl
 no_glance (suc n) p = no_glance n p
 
@@ -143,7 +143,7 @@ never_glance (range_times (suc n) m) p h = absurd (no_copy n (and_left (suc n ==
 
 -- where there is a copy
 -- copies of what has its lookaheads told have theirs told
-told_copies : (n : ℕ) (p : Pattern) → are_told p ≡ true → are_told (repeated n p) ≡ true
+told_copies : (n : ℕ) (p : Pattern) → are_told p ≡ true → are_told (repetition n p) ≡ true
 told_copies zero p h = refl
 told_copies (suc n) p h = and_true _ _ h (told_copies n p h)
 
@@ -162,15 +162,15 @@ untold_times any_times p w h = h
 untold_times some_times p w h = h
 untold_times once_at_most p w h = h
 untold_times (exact_times zero) p w h = absurd (true≢false w)
-untold_times (exact_times (suc n)) p w h = ap (λ (b : Bool). b && are_told (repeated n p)) h
+untold_times (exact_times (suc n)) p w h = ap (λ (b : Bool). b && are_told (repetition n p)) h
 untold_times (least_times zero) p w h = h
-untold_times (least_times (suc n)) p w h = ap (λ (b : Bool). (b && are_told (repeated n p)) && are_told p) h
+untold_times (least_times (suc n)) p w h = ap (λ (b : Bool). (b && are_told (repetition n p)) && are_told p) h
 untold_times (range_times zero zero) p w h = absurd (true≢false w)
 untold_times (range_times zero (suc m)) p w h =
     let all : suc m - zero ≡ suc m = omega arith in
-    ap (λ (k : ℕ). are_told (repeated k (alt empty p))) all ∙ ap (λ (b : Bool). b && are_told (repeated m (alt empty p))) h
+    ap (λ (k : ℕ). are_told (repetition k (alt empty p))) all ∙ ap (λ (b : Bool). b && are_told (repetition m (alt empty p))) h
 untold_times (range_times (suc n) m) p w h =
-    ap (λ (b : Bool). (b && are_told (repeated n p)) && are_told (repeated (m - suc n) (alt empty p))) h
+    ap (λ (b : Bool). (b && are_told (repetition n p)) && are_told (repetition (m - suc n) (alt empty p))) h
 
 -- so both or none of them have theirs told
 pub same_told : (t : Times) (p : Pattern) → is_never t ≡ false → are_told p ≡ are_told (quantified_pattern t p)
@@ -182,19 +182,19 @@ same_told t p w = by_test (are_told p) refl
     by_test false h = h ∙ sym (untold_times t p w h)
 
 -- copies of nothing are a glance
-glance_nothing : (n : ℕ) (p : Pattern) → is_empty p ≡ true → is_glance (repeated n p) ≡ true
+glance_nothing : (n : ℕ) (p : Pattern) → is_empty p ≡ true → is_glance (repetition n p) ≡ true
 glance_nothing zero p h = refl
 glance_nothing (suc n) p h = and_true _ _ h (glance_nothing n p h)
 
 -- and copies of anything else are none
-pub glance_copies : (n : ℕ) (p : Pattern) → (n == 0) ≡ false → is_empty p ≡ is_glance (repeated n p)
+pub glance_copies : (n : ℕ) (p : Pattern) → (n == 0) ≡ false → is_empty p ≡ is_glance (repetition n p)
 glance_copies zero p w = absurd (true≢false w)
 glance_copies (suc n) p w = by_test (is_empty p) refl
   where
     -- the same by whether it is nothing
-    by_test : (b : Bool) → is_empty p ≡ b → is_empty p ≡ is_glance (repeated (suc n) p)
+    by_test : (b : Bool) → is_empty p ≡ b → is_empty p ≡ is_glance (repetition (suc n) p)
     by_test true h = h ∙ sym (and_true _ _ h (glance_nothing n p h))
-    by_test false h = h ∙ sym (ap (λ (b : Bool). b && is_glance (repeated n p)) h)
+    by_test false h = h ∙ sym (ap (λ (b : Bool). b && is_glance (repetition n p)) h)
 
 -- what is repeated in another way is one only where there is no copy
 pub other_glance : (q : Quantifier) (p : Pattern) → (q ≡ ZeroOrOne → ⊥) → ((n : ℕ) → q ≡ Exactly n → ⊥)
@@ -209,7 +209,7 @@ other_glance (FromTo zero zero) p h g = refl
 other_glance (FromTo zero (suc m)) p h g =
     let all : suc m - zero ≡ suc m = omega arith in
     let some : (suc m == 0) ≡ false = grind (arith, nat_tests) in
-    some ∙ sym (ap (λ (k : ℕ). is_glance (repeated k (alt empty p))) all)
+    some ∙ sym (ap (λ (k : ℕ). is_glance (repetition k (alt empty p))) all)
 other_glance (FromTo (suc n) m) p h g =
     let some : (suc n == 0) ≡ false = grind (arith, nat_tests) in
     ap (λ (b : Bool). b && (m == 0)) some

@@ -5,7 +5,7 @@ use Rattle.std.proofs.lemmas.List.{length-reverse}
 use Rattle.strkw_ecma.specs.Tree.{Pattern, empty, class, look, cat, alt, star, plus, lookbehind, lookahead}
 use Rattle.strkw_ecma.specs.Meaning.{before, Matches, Found}
 use Rattle.strkw_ecma.specs.Mirror.{mirror}
-use Rattle.strkw_ecma.specs.machine.Marks.{IsToldBy, Kept, unmarked}
+use Rattle.strkw_ecma.specs.machine.Marks.{IsToldBy, Kept, is_unmarked}
 use Rattle.strkw_ecma.specs.machine.Sight.{depth, marked_at, ends_at, ends_by, begins_at}
 use Rattle.strkw_ecma.proofs.Steps.{same_meaning, and_left, and_right, or_case, or_left, or_right, forwards}
 use Rattle.strkw_ecma.proofs.Behind.{says_of, kept_next, none_under_way, seen}
@@ -16,16 +16,16 @@ use Rattle.strkw_ecma.proofs.Depths.{less_left, less_right, mirror_depth}
 -- Here `see` says at each place of a lookahead whether what it looks for is there, and says what is so of those with fewer
 -- lookarounds in one another than n.
 module _ (see : ℕ → Pattern → Bool) (text : List ℕ) (n : ℕ)
-    (told : (r : Pattern) → unmarked r ≡ true → depth r < n → IsToldBy see text r) where
+    (told : (r : Pattern) → is_unmarked r ≡ true → depth r < n → IsToldBy see text r) where
   -- at the first place the marks within lookbehinds are kept
-  kept_start : (p : Pattern) → unmarked p ≡ true → depth p ≤ n → Kept see text p 0
+  kept_start : (p : Pattern) → is_unmarked p ≡ true → depth p ≤ n → Kept see text p 0
   kept_start empty h w = tt
   kept_start (class m b rs) h w = tt
   kept_start (look l) h w = tt
   kept_start (cat p q) h w =
-      (kept_start p (and_left _ _ h) (less_left (depth p) (depth q) n w), kept_start q (and_right (unmarked p) _ h) (less_right (depth p) (depth q) n w))
+      (kept_start p (and_left _ _ h) (less_left (depth p) (depth q) n w), kept_start q (and_right (is_unmarked p) _ h) (less_right (depth p) (depth q) n w))
   kept_start (alt p q) h w =
-      (kept_start p (and_left _ _ h) (less_left (depth p) (depth q) n w), kept_start q (and_right (unmarked p) _ h) (less_right (depth p) (depth q) n w))
+      (kept_start p (and_left _ _ h) (less_left (depth p) (depth q) n w), kept_start q (and_right (is_unmarked p) _ h) (less_right (depth p) (depth q) n w))
   kept_start (star p) h w = kept_start p h w
   kept_start (plus p) h w = kept_start p h w
   kept_start (lookbehind b p) h w = (
@@ -34,7 +34,7 @@ module _ (see : ℕ → Pattern → Bool) (text : List ℕ) (n : ℕ)
   )
   kept_start (lookahead b p) h w = told p h (omega (arith, w))
 
-  module _ (p : Pattern) (bare : unmarked p ≡ true) (few : depth p ≤ n) where
+  module _ (p : Pattern) (bare : is_unmarked p ≡ true) (few : depth p ≤ n) where
     -- the marks of a pattern that is entered at each place are those of all ways that have begun before
     kept_at : (i : ℕ) → i ≤ length text → Kept see text (lookbehind false (marked_at see text p i)) i
     kept_at zero h = (
@@ -89,7 +89,7 @@ module _ (see : ℕ → Pattern → Bool) (text : List ℕ) (n : ℕ)
         found_of j k h m = (k, j, omega (arith, h, forwards text p k j m), m)
 
 -- what is said of a lookahead, from the end of the text on, is so
-pub begins_right : (n : ℕ) (text : List ℕ) (p : Pattern) → unmarked p ≡ true → depth p < n → IsToldBy (begins_at n text) text p
+pub begins_right : (n : ℕ) (text : List ℕ) (p : Pattern) → is_unmarked p ≡ true → depth p < n → IsToldBy (begins_at n text) text p
 begins_right zero text p h w = absurd (omega (arith, w))
 begins_right (suc n) text p h w = λ i within.
     let back = reverse text in

@@ -4,11 +4,11 @@ use Rattle.std.proofs.Common.{true≢false, arith}
 use Rattle.std.proofs.lemmas.Bool.{leb-true, leb-false}
 use Rattle.std.proofs.lemmas.Bool.Decides.{nat_tests}
 use Rattle.strkw_ecma.specs.Tree.{Pattern, empty, cat, alt, star, plus, lookbehind, lookahead}
-use Rattle.strkw_ecma.specs.Patterns.{repeated}
+use Rattle.strkw_ecma.specs.Patterns.{repetition}
 use Rattle.strkw_ecma.specs.Program.{Instruction, other, join, star_end, plus_end, look_end, is_class, is_empty, glance, program, alternatives}
 use Rattle.strkw_ecma.specs.Size.{steps_of, steps, spread, search_steps, max_steps, max_term_steps}
 use Rattle.strkw_ecma.specs.Glances.{are_told}
-use Rattle.strkw_ecma.specs.machine.Sizes.{capped}
+use Rattle.strkw_ecma.specs.machine.Sizes.{cap_steps}
 use Rattle.strkw_ecma.proofs.Programs.{by_class, by_option}
 
 -- what is the same of all numbers beyond the most steps
@@ -16,15 +16,15 @@ abbrev IsFlat : {A : Type 0} → (ℕ → A) → Type 0
 IsFlat f = (x y : ℕ) → max_steps + 1 ≤ x → max_steps + 1 ≤ y → f x ≡ f y
 
 -- is the same of a number up to the limit as of the number
-of_capped : {A : Type 0} (f : ℕ → A) → IsFlat f → (n : ℕ) → f (capped n) ≡ f n
+of_capped : {A : Type 0} (f : ℕ → A) → IsFlat f → (n : ℕ) → f (cap_steps n) ≡ f n
 of_capped f flat n = by_order (nat_le n (max_steps + 1)) refl
   where
     -- the same by whether the number is within the limit
-    by_order : (b : Bool) → nat_le n (max_steps + 1) ≡ b → f (capped n) ≡ f n
+    by_order : (b : Bool) → nat_le n (max_steps + 1) ≡ b → f (cap_steps n) ≡ f n
     by_order true e = ap f (omega (arith, leb-true n (max_steps + 1) e))
     by_order false e =
         let h = leb-false n (max_steps + 1) e in
-        flat (capped n) n (omega (arith, h)) (omega (arith, h))
+        flat (cap_steps n) n (omega (arith, h)) (omega (arith, h))
 
 -- a number is at most so many times itself, where that is once or more
 once_least : (n a : ℕ) → a ≤ suc n * a
@@ -37,7 +37,7 @@ flat_copies f flat (suc n) x y h g =
     flat (suc n * x) (suc n * y) (omega (arith, h, once_least n x)) (omega (arith, g, once_least n y))
 
 -- what is counted up to the limit is the same of all numbers beyond it
-flat_capped : IsFlat capped
+flat_capped : IsFlat cap_steps
 flat_capped x y h g = omega (arith, h, g)
 
 -- and so is the comparison with a number within the limit
@@ -46,27 +46,27 @@ flat_test most within x y h g = grind (arith, nat_tests)
 
 -- the limits
 -- a number is small enough for a whole exactly where it is so when counted up to the limit
-pub small_whole : (n : ℕ) → nat_le (capped n) max_steps ≡ nat_le n max_steps
+pub small_whole : (n : ℕ) → nat_le (cap_steps n) max_steps ≡ nat_le n max_steps
 small_whole n = of_capped (λ x. nat_le x max_steps) (flat_test max_steps (omega arith)) n
 
 -- so many copies are small enough for a term exactly where they are so with one so counted
-pub small_term : (k n : ℕ) → nat_le (k * capped n) max_term_steps ≡ nat_le (k * n) max_term_steps
+pub small_term : (k n : ℕ) → nat_le (k * cap_steps n) max_term_steps ≡ nat_le (k * n) max_term_steps
 small_term k n =
     let flat = flat_test max_term_steps (omega arith) in
     of_capped (λ x. nat_le (k * x) max_term_steps) (flat_copies (λ x. nat_le x max_term_steps) flat k) n
 
 -- sums and products
 -- counted up to the limit, a sum is that of its first two numbers so counted, and the third
-pub sum_capped : (a b c x y : ℕ) → x ≡ capped a → y ≡ capped b → capped (x + y + c) ≡ capped (a + b + c)
+pub sum_capped : (a b c x y : ℕ) → x ≡ cap_steps a → y ≡ cap_steps b → cap_steps (x + y + c) ≡ cap_steps (a + b + c)
 sum_capped a b c x y e f = omega (arith, e, f)
 
 -- the same of one number and a third
-pub more_capped : (a c x : ℕ) → x ≡ capped a → capped (0 + x + c) ≡ capped (a + c)
+pub more_capped : (a c x : ℕ) → x ≡ cap_steps a → cap_steps (0 + x + c) ≡ cap_steps (a + c)
 more_capped a c x e = omega (arith, e)
 
 -- and of a product, whose second number is so counted
-product_capped : (n a : ℕ) → capped (n * capped a) ≡ capped (n * a)
-product_capped n a = of_capped (λ x. capped (n * x)) (flat_copies capped flat_capped n) a
+product_capped : (n a : ℕ) → cap_steps (n * cap_steps a) ≡ cap_steps (n * a)
+product_capped n a = of_capped (λ x. cap_steps (n * x)) (flat_copies cap_steps flat_capped n) a
 
 -- the steps of a pattern by those of its parts
 -- the steps of instructions one behind another add up
@@ -111,20 +111,20 @@ pub behind_steps : (n : Bool) (p : Pattern) → steps (lookbehind n p) ≡ steps
 behind_steps n p = omega (arith, more_steps (program p) (look_end n ∷ []))
 
 -- what is repeated takes so many times its steps
-repeated_steps : (n : ℕ) (p : Pattern) → steps (repeated n p) ≡ n * steps p
+repeated_steps : (n : ℕ) (p : Pattern) → steps (repetition n p) ≡ n * steps p
 repeated_steps zero p = omega arith
-repeated_steps (suc n) p = omega (arith, cat_steps p (repeated n p), repeated_steps n p)
+repeated_steps (suc n) p = omega (arith, cat_steps p (repetition n p), repeated_steps n p)
 
 -- and up to the limit
 -- of two patterns one behind the other, from those of each so counted
-pub both_steps : (p q : Pattern) (x y : ℕ) → x ≡ capped (steps p) → y ≡ capped (steps q)
-    → capped (x + y + 0) ≡ capped (steps (cat p q))
+pub both_steps : (p q : Pattern) (x y : ℕ) → x ≡ cap_steps (steps p) → y ≡ cap_steps (steps q)
+    → cap_steps (x + y + 0) ≡ cap_steps (steps (cat p q))
 both_steps p q x y e f = omega (arith, sum_capped (steps p) (steps q) 0 x y e f, cat_steps p q)
 
 -- and of what is repeated
-pub copies_steps : (n : ℕ) (p : Pattern) (x : ℕ) → x ≡ capped (steps p) → capped (n * x) ≡ capped (steps (repeated n p))
+pub copies_steps : (n : ℕ) (p : Pattern) (x : ℕ) → x ≡ cap_steps (steps p) → cap_steps (n * x) ≡ cap_steps (steps (repetition n p))
 copies_steps n p x e =
-    ap (λ (y : ℕ). capped (n * y)) e ∙ product_capped n (steps p) ∙ ap capped (sym (repeated_steps n p))
+    ap (λ (y : ℕ). cap_steps (n * y)) e ∙ product_capped n (steps p) ∙ ap cap_steps (sym (repeated_steps n p))
 
 -- a lookahead takes two steps more than a glance of what it looks for
 pub ahead_steps : (n : Bool) (p : Pattern) → steps (lookahead n p) ≡ steps_of (glance p) + 2

@@ -2,7 +2,7 @@
 use Rattle.std.proofs.Common.{◌≡◌, ℕ, suc, ◌+◌, ◌<◌, Bool, true, false, ◌&&◌, ◌||◌, List, [], ◌∷◌, ◌++◌, length, drop, get_or, Option, Some, None}
 use Rattle.std.proofs.Common.{get_or-drop, refl, sym, ap, subst, ◌∙◌, length-append, drop-drop, arith}
 use Rattle.strkw_ecma.specs.Tree.{Pattern, empty, class, look, cat, alt, star, plus, lookbehind, lookahead, differ}
-use Rattle.strkw_ecma.specs.machine.Marks.{reads, leaves, leaves_by, step, step_by, classes, marked}
+use Rattle.strkw_ecma.specs.machine.Marks.{reads, leaves, leaves_by, step, step_by, classes, mark_classes}
 use Rattle.strkw_ecma.proofs.Marked.{same_classes}
 use Rattle.strkw_ecma.specs.machine.Slots.{slot, told, aside, spots, told_mark, told_by}
 
@@ -130,20 +130,20 @@ later now n m ts ms ns each k h =
 -- marks in a list that are told where numbers tell them, and else the old ones, are those of the pattern with these told
 pub marks_told : (now : ℕ → Bool) (p : Pattern) (ts : List (Option ℕ)) (ms ns : List Bool)
     → ((k : ℕ) → k < classes p → get_or ns k false ≡ told_mark now (get_or ts k None) (get_or ms k false))
-    → marked ns p ≡ told_by now ts (marked ms p)
+    → mark_classes ns p ≡ told_by now ts (mark_classes ms p)
 marks_told now empty ts ms ns each = refl
 marks_told now (class m n rs) ts ms ns each = ap (λ (b : Bool). class b n rs) (each 0 (omega arith))
 marks_told now (look l) ts ms ns each = refl
 marks_told now (cat p q) ts ms ns each =
-    ap (λ (r : Pattern). cat r (marked (drop (classes p) ns) q)) (marks_told now p ts ms ns (λ k h. each k (omega (arith, h))))
-    ∙ ap (cat (told_by now ts (marked ms p)))
+    ap (λ (r : Pattern). cat r (mark_classes (drop (classes p) ns) q)) (marks_told now p ts ms ns (λ k h. each k (omega (arith, h))))
+    ∙ ap (cat (told_by now ts (mark_classes ms p)))
     (marks_told now q (drop (classes p) ts) (drop (classes p) ms) (drop (classes p) ns) (later now (classes p) (classes q) ts ms ns each))
-    ∙ ap (λ (k : ℕ). cat (told_by now ts (marked ms p)) (told_by now (drop k ts) (marked (drop (classes p) ms) q))) (sym (same_classes ms p))
+    ∙ ap (λ (k : ℕ). cat (told_by now ts (mark_classes ms p)) (told_by now (drop k ts) (mark_classes (drop (classes p) ms) q))) (sym (same_classes ms p))
 marks_told now (alt p q) ts ms ns each =
-    ap (λ (r : Pattern). alt r (marked (drop (classes p) ns) q)) (marks_told now p ts ms ns (λ k h. each k (omega (arith, h))))
-    ∙ ap (alt (told_by now ts (marked ms p)))
+    ap (λ (r : Pattern). alt r (mark_classes (drop (classes p) ns) q)) (marks_told now p ts ms ns (λ k h. each k (omega (arith, h))))
+    ∙ ap (alt (told_by now ts (mark_classes ms p)))
     (marks_told now q (drop (classes p) ts) (drop (classes p) ms) (drop (classes p) ns) (later now (classes p) (classes q) ts ms ns each))
-    ∙ ap (λ (k : ℕ). alt (told_by now ts (marked ms p)) (told_by now (drop k ts) (marked (drop (classes p) ms) q))) (sym (same_classes ms p))
+    ∙ ap (λ (k : ℕ). alt (told_by now ts (mark_classes ms p)) (told_by now (drop k ts) (mark_classes (drop (classes p) ms) q))) (sym (same_classes ms p))
 marks_told now (star p) ts ms ns each = ap star (marks_told now p ts ms ns each)
 marks_told now (plus p) ts ms ns each = ap plus (marks_told now p ts ms ns each)
 marks_told now (lookbehind n p) ts ms ns each = ap (lookbehind n) (marks_told now p ts ms ns each)

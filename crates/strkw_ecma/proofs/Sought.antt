@@ -8,8 +8,8 @@ use Rattle.strkw_ecma.specs.Tree.{Pattern, empty, class, look, cat, alt, star, p
 use Rattle.strkw_ecma.specs.Meaning.{before, Matches, Found}
 use Rattle.strkw_ecma.specs.Mirror.{along}
 use Rattle.strkw_ecma.specs.machine.Asides.{Quest, IsToldAs, AreToldAs, IsAside, AreAsides}
-use Rattle.strkw_ecma.specs.machine.Marks.{leaves, step, unmarked}
-use Rattle.strkw_ecma.specs.machine.Seeking.{Seeking, said, ends_from, ends_within, row_of, rows_behind, is_sought}
+use Rattle.strkw_ecma.specs.machine.Marks.{leaves, step, is_unmarked}
+use Rattle.strkw_ecma.specs.machine.Seeking.{Seeking, row_answer, ends_from, ends_within, row_of, rows_behind, is_sought}
 use Rattle.strkw_ecma.specs.machine.Sight.{depth, marked_at, ends_at, begins_at}
 use Rattle.strkw_ecma.specs.machine.Slots.{told, aside, spots, told_by}
 use Rattle.strkw_ecma.proofs.Answers.{same_answer}
@@ -30,7 +30,7 @@ rest_of_cons c d xs ys e = ap (drop 1) e
 
 -- Here the rows say at each place what `see` says of the lookaheads.
 module _ (rows : List (List Bool)) (ts : List (Option ℕ)) (text : List ℕ) (p : Pattern) (see : ℕ → Pattern → Bool)
-    (said_is : (i : ℕ) → i ≤ length text → AreSaid (said rows (length text - i)) (see i) ts (spots p)) where
+    (said_is : (i : ℕ) → i ≤ length text → AreSaid (row_answer rows (length text - i)) (see i) ts (spots p)) where
   -- lookaheads stay what they are
   spots_at : (i : ℕ) → spots (marked_at see text p i) ≡ spots p
   spots_at zero = refl
@@ -38,22 +38,22 @@ module _ (rows : List (List Bool)) (ts : List (Option ℕ)) (text : List ℕ) (p
 
   -- at a place, with so many characters still to come, the rows tell each
   told_at : (i ahead : ℕ) → i + ahead ≡ length text
-      → told_by (said rows ahead) ts (aside (marked_at see text p i)) ≡ told (see i) (marked_at see text p i)
+      → told_by (row_answer rows ahead) ts (aside (marked_at see text p i)) ≡ told (see i) (marked_at see text p i)
   told_at i ahead e =
       let rest : length text - i ≡ ahead = omega (arith, e) in
-      all_told (said rows ahead) (see i) (marked_at see text p i) ts
-      (subst (λ (ss : List (Option Pattern)). AreSaid (said rows ahead) (see i) ts ss) (sym (spots_at i))
-      (subst (λ (n : ℕ). AreSaid (said rows n) (see i) ts (spots p)) rest (said_is i (omega (arith, e)))))
+      all_told (row_answer rows ahead) (see i) (marked_at see text p i) ts
+      (subst (λ (ss : List (Option Pattern)). AreSaid (row_answer rows ahead) (see i) ts ss) (sym (spots_at i))
+      (subst (λ (n : ℕ). AreSaid (row_answer rows n) (see i) ts (spots p)) rest (said_is i (omega (arith, e)))))
 
   module _ (i ahead : ℕ) (e : i + ahead ≡ length text) (last next : Option ℕ) (before_is : last ≡ before text i) (behind_is : next ≡ slice_get text i) where
     -- so the search ends here where the pattern does
-    ends_here : leaves last next (told_by (said rows ahead) ts (aside (marked_at see text p i))) true ≡ ends_at see text p i
+    ends_here : leaves last next (told_by (row_answer rows ahead) ts (aside (marked_at see text p i))) true ≡ ends_at see text p i
     ends_here =
         ap (λ (q : Pattern). leaves last next q true) (told_at i ahead e) ∙ told_leaves (see i) last next (marked_at see text p i) true
         ∙ rw (before_is, behind_is) refl
 
     -- and goes on with its marks at the next place
-    goes_on_here : step last next (told_by (said rows ahead) ts (aside (marked_at see text p i))) true ≡ aside (marked_at see text p (suc i))
+    goes_on_here : step last next (told_by (row_answer rows ahead) ts (aside (marked_at see text p i))) true ≡ aside (marked_at see text p (suc i))
     goes_on_here =
         ap (λ (q : Pattern). step last next q true) (told_at i ahead e) ∙ told_step (see i) last next (marked_at see text p i) true
         ∙ rw (before_is, behind_is) refl
@@ -128,7 +128,7 @@ module _ (rows : List (List Bool)) (ts : List (Option ℕ)) (text : List ℕ) (p
         λ f. let same : f.0 ≡ i = omega (arith, f.1, f.2, whole) in is ∙ ap (ends_at see text p) (sym same) ∙ f.3,
       )
   within_from (c ∷ cs) i last b e h =
-      let q = told_by (said rows (suc (length cs))) ts (aside (marked_at see text p i)) in
+      let q = told_by (row_answer rows (suc (length cs))) ts (aside (marked_at see text p i)) in
       let one = leaves last (Some c) q true in
       let more = ends_within rows ts (step last (Some c) q true) (Some c) cs in
       let is : one ≡ ends_at see text p i = ends_here i (suc (length cs)) (so_far i c cs e) last (Some c) b (here i c cs e) in
@@ -151,7 +151,7 @@ AreRows chars rows fs = (k : ℕ) (f : Quest) → slice_get fs k ≡ Some f → 
 abbrev AreFew : ℕ → List (Option Pattern) → Type 0
 AreFew n [] = Unit {0}
 AreFew n (None ∷ ss) = AreFew n ss
-AreFew n (Some r ∷ ss) = (unmarked r ≡ true) × (depth r < n) × AreFew n ss
+AreFew n (Some r ∷ ss) = (is_unmarked r ≡ true) × (depth r < n) × AreFew n ss
 
 -- of two lists, where it is so of both
 few_append : (n : ℕ) (ss rs : List (Option Pattern)) → AreFew n ss → AreFew n rs → AreFew n (ss ++ rs)
@@ -160,16 +160,16 @@ few_append n (None ∷ ss) rs u w = few_append n ss rs u w
 few_append n (Some r ∷ ss) rs u w = (u.0, u.1, few_append n ss rs u.2 w)
 
 -- it is so of the lookaheads of a pattern
-few_spots : (n : ℕ) (p : Pattern) → unmarked p ≡ true → depth p ≤ n → AreFew n (spots p)
+few_spots : (n : ℕ) (p : Pattern) → is_unmarked p ≡ true → depth p ≤ n → AreFew n (spots p)
 few_spots n empty h w = tt
 few_spots n (class m b rs) h w = tt
 few_spots n (look l) h w = tt
 few_spots n (cat p q) h w =
     few_append n (spots p) (spots q) (few_spots n p (and_left _ _ h) (less_left (depth p) (depth q) n w))
-    (few_spots n q (and_right (unmarked p) _ h) (less_right (depth p) (depth q) n w))
+    (few_spots n q (and_right (is_unmarked p) _ h) (less_right (depth p) (depth q) n w))
 few_spots n (alt p q) h w =
     few_append n (spots p) (spots q) (few_spots n p (and_left _ _ h) (less_left (depth p) (depth q) n w))
-    (few_spots n q (and_right (unmarked p) _ h) (less_right (depth p) (depth q) n w))
+    (few_spots n q (and_right (is_unmarked p) _ h) (less_right (depth p) (depth q) n w))
 few_spots n (star p) h w = few_spots n p h w
 few_spots n (plus p) h w = few_spots n p h w
 few_spots n (lookbehind b p) h w = few_spots n p h (omega (arith, w))
@@ -191,8 +191,8 @@ module _ (chars : List ℕ) (rows : List (List Bool)) (fs : List Quest) (right :
   T = along b chars
 
   -- the answer of a row is what is said of the lookahead that it is for
-  one_said : (k : ℕ) (r : Pattern) → IsToldAs fs b (Some k) (Some r) → unmarked r ≡ true → depth r < n → (i : ℕ) → i ≤ length chars
-      → said rows (length chars - i) k ≡ begins_at n T i r
+  one_said : (k : ℕ) (r : Pattern) → IsToldAs fs b (Some k) (Some r) → is_unmarked r ≡ true → depth r < n → (i : ℕ) → i ≤ length chars
+      → row_answer rows (length chars - i) k ≡ begins_at n T i r
   one_said k r (f, at, way, alike) bare few i h =
       let long = along_length b chars in
       let there : along f.backward chars ≡ reverse T = ap (λ (c : Bool). along c chars) way ∙ other_way b chars in
@@ -217,7 +217,7 @@ module _ (chars : List ℕ) (rows : List (List Bool)) (fs : List Quest) (right :
 
   -- and so of each
   pub all_said : (ts : List (Option ℕ)) (ss : List (Option Pattern)) → AreToldAs fs b ts ss → AreFew n ss → (i : ℕ) → i ≤ length chars
-      → AreSaid (said rows (length chars - i)) (begins_at n T i) ts ss
+      → AreSaid (row_answer rows (length chars - i)) (begins_at n T i) ts ss
   all_said [] [] u w i h = tt
   all_said [] (s ∷ ss) u w i h = absurd u
   all_said (t ∷ ts) [] u w i h = absurd u
@@ -237,10 +237,10 @@ module _ (chars : List ℕ) (fs : List Quest) (x : Seeking) (f : Quest) (is : Is
   see = begins_at (depth f.pattern) U
 
   -- what the rows say of its lookaheads is so
-  saying : (i : ℕ) → i ≤ length U → AreSaid (said rows (length U - i)) (see i) x.told (spots f.pattern)
+  saying : (i : ℕ) → i ≤ length U → AreSaid (row_answer rows (length U - i)) (see i) x.told (spots f.pattern)
   saying i h =
       let long = along_length f.backward chars in
-      subst (λ (n : ℕ). AreSaid (said rows (n - i)) (see i) x.told (spots f.pattern)) (sym long)
+      subst (λ (n : ℕ). AreSaid (row_answer rows (n - i)) (see i) x.told (spots f.pattern)) (sym long)
       (all_said chars rows fs right f.backward (depth f.pattern) x.told (spots f.pattern) is.told
       (few_spots (depth f.pattern) f.pattern is.bare (omega arith)) i (omega (arith, h, long)))
 

@@ -1,6 +1,6 @@
 -- What is read is spelled so.
 use Rattle.std.proofs.Common.{◌≡◌, ℕ, Bool, true, false, ◌&&◌, List, [], ◌∷◌, ◌++◌, Option, Some, None, ◌==◌, refl, sym, ap, subst, ◌∙◌, append_assoc}
-use Rattle.std.specs.Prelude.{option_and_then, option_map, is_some, nat_le, ◌*◌}
+use Rattle.std.specs.Prelude.{option_and_then, option_map, nat_le, ◌*◌}
 use Rattle.std.proofs.lemmas.List.{append-nil}
 use Rattle.std.specs.Str.{byte}
 use Rattle.strkw_ecma.specs.Escapes.{Escape, itself, control, set, boundary, no_boundary, null, letter, hexadecimal, unicode, property, no_property, unknown}
@@ -24,10 +24,10 @@ use Rattle.strkw_ecma.specs.machine.Reading.{on_name_end, on_look, on_naming, on
 use Rattle.strkw_ecma.specs.machine.Reading.{on_name_coding, on_coding, on_property}
 use Rattle.strkw_ecma.specs.machine.Reading.{closes, is_between, State}
 use Rattle.strkw_ecma.specs.machine.Reading.{all_terms, whole_level, new_level, with_atom, with_term}
-use Rattle.strkw_ecma.specs.machine.Reading.{with_mode, with_part, closed_in}
+use Rattle.strkw_ecma.specs.machine.Reading.{with_mode, with_part, close_in}
 use Rattle.strkw_ecma.specs.machine.Reading.{with_quantifier, with_question}
-use Rattle.strkw_ecma.specs.machine.Reading.{with_open, opened_within, on_token, on_group, on_extension, on_escape, on_bracket, next, next_in, read_from, initial}
-use Rattle.strkw_ecma.specs.Numbers.{number, number_of, max_count, CountToken, digit, comma, closing_brace, no_count, count_token}
+use Rattle.strkw_ecma.specs.machine.Reading.{with_open, open_within, on_token, on_group, on_extension, on_escape, on_bracket, next, next_in, read_from, initial}
+use Rattle.strkw_ecma.specs.Numbers.{number, max_count, CountToken, digit, comma, closing_brace, no_count, count_token}
 use Rattle.strkw_ecma.specs.Size.{steps, max_term_steps}
 use Rattle.strkw_ecma.specs.Patterns.{atom_pattern, times, copies}
 use Rattle.strkw_ecma.proofs.Letters.{char_of_count, char_of_count_token, same_char, char_of_extension, char_of_extension_token, char_of_name}
@@ -125,12 +125,13 @@ module _ (os : List (Open trees)) (ns : List (List ℕ)) (o : Open trees) (l : L
 
 -- so has a state that is made where something is open
 close_in_read : (os : List (Open trees)) (ns : List (List ℕ)) (l : Level trees) (x : Last trees)
-    → HasRead (closed_in os ns (whole_level l x)) (before (record { groups = os; names = ns }) l x ++ byte ")" ∷ [])
+    → HasRead (close_in os ns (whole_level l x)) (before (record { groups = os; names = ns }) l x ++ byte ")" ∷ [])
 close_in_read [] ns l x = tt
 close_in_read (o ∷ os) ns l x = enclosed_read os ns o l x o.enclosing refl
 
 -- the same by all that is open
-close_read : (outer : Outer trees) (l : Level trees) (x : Last trees) → HasRead (closed_in outer.groups outer.names (whole_level l x)) (before outer l x ++ byte ")" ∷ [])
+close_read : (outer : Outer trees) (l : Level trees) (x : Last trees)
+    → HasRead (close_in outer.groups outer.names (whole_level l x)) (before outer l x ++ byte ")" ∷ [])
 close_read outer l x = close_in_read outer.groups outer.names l x
 
 -- a state behind a character between terms has read what was before it, and the character
@@ -145,7 +146,8 @@ token_read outer l x c question e = subst (λ z. HasRead (with_question (standin
 token_read outer l x c caret e = subst (λ z. HasRead (on_token (standing outer l x) c caret) (before outer l x ++ z ∷ [])) e (term_read outer l x at_start)
 token_read outer l x c dollar e = subst (λ z. HasRead (on_token (standing outer l x) c dollar) (before outer l x ++ z ∷ [])) e (term_read outer l x at_end)
 token_read outer l x c opening_token e = ap (λ z. before outer l x ++ z ∷ []) e
-token_read outer l x c closing e = subst (λ z. HasRead (closed_in outer.groups outer.names (whole_level l x)) (before outer l x ++ z ∷ [])) e (close_read outer l x)
+token_read outer l x c closing e =
+    subst (λ z. HasRead (close_in outer.groups outer.names (whole_level l x)) (before outer l x ++ z ∷ [])) e (close_read outer l x)
 token_read outer l x c point e = subst (λ z. HasRead (on_token (standing outer l x) c point) (before outer l x ++ z ∷ [])) e (atom_read outer l x dot)
 token_read outer l x c backslash e = ap (λ z. before outer l x ++ z ∷ []) e
 token_read outer l x c bracket e = ap (λ z. before outer l x ++ z ∷ []) e
@@ -224,17 +226,17 @@ group_read outer l x c true e =
 extension_read : (outer : Outer trees) (l : Level trees) (x : Last trees) (c : ℕ) (k : Extension) → char_of_extension k c ≡ c
     → HasRead (on_extension (standing outer l x) k) ((before outer l x ++ byte "(" ∷ byte "?" ∷ []) ++ c ∷ [])
 extension_read outer l x c uncaptured e =
-    subst (HasRead (opened_within (standing outer l x) (of_group plain_group)))
+    subst (HasRead (open_within (standing outer l x) (of_group plain_group)))
     (ap (λ z. before outer l x ++ byte "(" ∷ byte "?" ∷ z ∷ []) e ∙ sym (append_assoc (before outer l x) (byte "(" ∷ byte "?" ∷ []) (c ∷ [])))
     (open_read outer l x (of_group plain_group) _)
 extension_read outer l x c name_opening e =
     ap (λ z. before outer l x ++ byte "(" ∷ byte "?" ∷ z ∷ []) e ∙ sym (append_assoc (before outer l x) (byte "(" ∷ byte "?" ∷ []) (c ∷ []))
 extension_read outer l x c look_equals e =
-    subst (HasRead (opened_within (standing outer l x) (of_lookahead false)))
+    subst (HasRead (open_within (standing outer l x) (of_lookahead false)))
     (ap (λ z. before outer l x ++ byte "(" ∷ byte "?" ∷ z ∷ []) e ∙ sym (append_assoc (before outer l x) (byte "(" ∷ byte "?" ∷ []) (c ∷ [])))
     (open_read outer l x (of_lookahead false) _)
 extension_read outer l x c look_negation e =
-    subst (HasRead (opened_within (standing outer l x) (of_lookahead true)))
+    subst (HasRead (open_within (standing outer l x) (of_lookahead true)))
     (ap (λ z. before outer l x ++ byte "(" ∷ byte "?" ∷ z ∷ []) e ∙ sym (append_assoc (before outer l x) (byte "(" ∷ byte "?" ∷ []) (c ∷ [])))
     (open_read outer l x (of_lookahead true) _)
 extension_read outer l x c no_extension e = tt
@@ -312,7 +314,8 @@ module _ (outer : Outer trees) (l : Level trees) where
   high_read x ds o c no_count e = tt
 
   -- so behind any character of a count, that is read too
-  counting_read : (x : Last trees) (n : Count trees) (c : ℕ) → HasRead (on_count (standing outer l x) n c) (spelled (with_mode (standing outer l x) (counting n)) ++ c ∷ [])
+  counting_read : (x : Last trees) (n : Count trees) (c : ℕ)
+      → HasRead (on_count (standing outer l x) n c) (spelled (with_mode (standing outer l x) (counting n)) ++ c ∷ [])
   counting_read x (low o) c = low_read x o c (count_token c) (char_of_count_token c)
   counting_read x (high ds o) c = high_read x ds o c (count_token c) (char_of_count_token c)
 
@@ -365,7 +368,7 @@ name_end_read : (outer : Outer trees) (l : Level trees) (x : Last trees) (n : Li
 name_end_read outer l x [] = tt
 name_end_read outer l x (y ∷ n) =
     let o : Outer trees = record { groups = outer.groups; names = outer.names ++ name_value (y ∷ n) ∷ [] } in
-    subst (HasRead (opened_within (standing o l x) (of_group (named (y ∷ n))))) (sym (append_assoc (before outer l x) (name_text (y ∷ n)) (byte ">" ∷ [])))
+    subst (HasRead (open_within (standing o l x) (of_group (named (y ∷ n))))) (sym (append_assoc (before outer l x) (name_text (y ∷ n)) (byte ">" ∷ [])))
     (open_read o l x (of_group (named (y ∷ n))) _)
 
 -- the character that tells whether a lookbehind is negated
@@ -377,10 +380,10 @@ sign true = byte "!"
 look_begin_read : (outer : Outer trees) (l : Level trees) (x : Last trees) (n : List NameChar) (b : Bool)
     → HasRead (on_look (standing outer l x) (name_value n) b) ((before outer l x ++ name_text n) ++ sign b ∷ [])
 look_begin_read outer l x [] false =
-    subst (HasRead (opened_within (standing outer l x) (of_lookbehind false))) (sym (append_assoc (before outer l x) (name_text []) (byte "=" ∷ [])))
+    subst (HasRead (open_within (standing outer l x) (of_lookbehind false))) (sym (append_assoc (before outer l x) (name_text []) (byte "=" ∷ [])))
     (open_read outer l x (of_lookbehind false) _)
 look_begin_read outer l x [] true =
-    subst (HasRead (opened_within (standing outer l x) (of_lookbehind true))) (sym (append_assoc (before outer l x) (name_text []) (byte "!" ∷ [])))
+    subst (HasRead (open_within (standing outer l x) (of_lookbehind true))) (sym (append_assoc (before outer l x) (name_text []) (byte "!" ∷ [])))
     (open_read outer l x (of_lookbehind true) _)
 look_begin_read outer l x (y ∷ n) b = tt
 

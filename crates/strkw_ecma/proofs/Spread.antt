@@ -3,8 +3,8 @@ use Rattle.std.proofs.Common.{◌≡◌, ℕ, ◌+◌, ◌≤◌, Bool, true, fa
 use Rattle.strkw_ecma.specs.Tree.{Pattern, empty, class, look, cat, alt, star, plus, lookbehind, lookahead}
 use Rattle.strkw_ecma.specs.Program.{is_class, is_empty, alternatives}
 use Rattle.strkw_ecma.specs.Size.{steps_of, steps, spread, max_steps}
-use Rattle.strkw_ecma.specs.Mirror.{facing}
-use Rattle.strkw_ecma.specs.machine.Marks.{unmarked, is_clean}
+use Rattle.strkw_ecma.specs.Mirror.{mirror_if}
+use Rattle.strkw_ecma.specs.machine.Marks.{is_unmarked, is_clean}
 use Rattle.strkw_ecma.specs.machine.Seekers.{IsFit}
 use Rattle.strkw_ecma.specs.machine.Slots.{slot, aside}
 use Rattle.strkw_ecma.proofs.Behind.{nothing_is}
@@ -119,22 +119,22 @@ pub aside_steps : (p : Pattern) → steps (aside p) ≤ steps (spread p)
 aside_steps p = (takes_less p).0
 
 -- it bears no mark where the pattern bears none
-pub aside_clean : (p : Pattern) → unmarked p ≡ true → is_clean (aside p) ≡ true
+pub aside_clean : (p : Pattern) → is_unmarked p ≡ true → is_clean (aside p) ≡ true
 aside_clean empty h = refl
 aside_clean (class m n rs) h = h
 aside_clean (look l) h = refl
-aside_clean (cat p q) h = and_true _ _ (aside_clean p (and_left _ _ h)) (aside_clean q (and_right (unmarked p) _ h))
-aside_clean (alt p q) h = and_true _ _ (aside_clean p (and_left _ _ h)) (aside_clean q (and_right (unmarked p) _ h))
+aside_clean (cat p q) h = and_true _ _ (aside_clean p (and_left _ _ h)) (aside_clean q (and_right (is_unmarked p) _ h))
+aside_clean (alt p q) h = and_true _ _ (aside_clean p (and_left _ _ h)) (aside_clean q (and_right (is_unmarked p) _ h))
 aside_clean (star p) h = aside_clean p h
 aside_clean (plus p) h = aside_clean p h
 aside_clean (lookbehind n p) h = aside_clean p h
 aside_clean (lookahead n p) h = refl
 
 -- so it is fit where it takes few steps with those marks
-pub aside_fit : (p : Pattern) → unmarked p ≡ true → steps (spread p) ≤ max_steps → IsFit (aside p)
+pub aside_fit : (p : Pattern) → is_unmarked p ≡ true → steps (spread p) ≤ max_steps → IsFit (aside p)
 aside_fit p h w = (omega (arith, w, aside_steps p), aside_clean p h)
 
 -- and so is what is made of it, looked for from either end
-pub facing_steps : (b : Bool) (p : Pattern) → steps (spread (facing b p)) ≡ steps (spread p)
+pub facing_steps : (b : Bool) (p : Pattern) → steps (spread (mirror_if b p)) ≡ steps (spread p)
 facing_steps false p = refl
 facing_steps true p = mirror_steps p

@@ -2,9 +2,9 @@
 use Rattle.std.proofs.Common.{◌≡◌, ℕ, ◌+◌, ◌*◌, ◌<◌, ◌==◌, Bool, true, false, List, Vec, Global, length, get_or, Option, Some, None, refl, sym, ap, ◌∙◌, arith}
 use Rattle.strkw_ecma.specs.Tree.{Pattern}
 use Rattle.strkw_ecma.specs.Meaning.{is_word, is_edge}
-use Rattle.strkw_ecma.specs.machine.Marks.{leaves, step, marked, is_clean}
+use Rattle.strkw_ecma.specs.machine.Marks.{leaves, step, mark_classes, is_clean}
 use Rattle.strkw_ecma.specs.machine.Columns.{answers, column_of, has_boundary, Tells}
-use Rattle.strkw_ecma.specs.machine.Table.{entry_at, row_after, found, marks_in, IsRowOf, IsEntry, IsRow, IsTable, Searches}
+use Rattle.strkw_ecma.specs.machine.Table.{entry_at, row_after, found_row, marks_in, IsRowOf, IsEntry, IsRow, IsTable, Searches}
 use Rattle.strkw_ecma.specs.declared.states.State.{State}
 use Rattle.strkw_ecma.specs.declared.tree.CharSet.{CharSet}
 use Rattle.strkw_ecma.proofs.Alike.{SameWord, same_leaves, same_step, left, next_word, place_is, marked_tells, marked_word}
@@ -35,7 +35,7 @@ module _ (classes : List (Vec CharSet Global)) (keys samples entries : List ℕ)
   row_of row q b at = table.rows row at.state at.of_row
 
   -- the last entry of such a row says that the pattern is found exactly where it is left at the end
-  ends : (row : ℕ) (q : Pattern) (b : Option ℕ) → At row q b → (entry_at entries row end_column == found) ≡ leaves b None q true
+  ends : (row : ℕ) (q : Pattern) (b : Option ℕ) → At row q b → (entry_at entries row end_column == found_row) ≡ leaves b None q true
   ends row q b at =
       (row_of row q b at).ends
       ∙ same_leaves classes at.state.last b None None at.edge refl (λ n rs told. refl) (marks_in p at.state) true (marked_word _ p _ _ at.word)
@@ -80,7 +80,7 @@ module _ (classes : List (Vec CharSet Global)) (keys samples entries : List ℕ)
         ∙ ap (λ (r : Pattern). step b (Some c) r true) at.marks
 
     -- the entry says that the pattern is found exactly where it is left here
-    pub finds : (entry_at entries row k == found) ≡ leaves b (Some c) q true
+    pub finds : (entry_at entries row k == found_row) ≡ leaves b (Some c) q true
     finds = entry.finds ∙ here
 
     -- a last character alike to that of the column is alike to this
@@ -96,7 +96,7 @@ module _ (classes : List (Vec CharSet Global)) (keys samples entries : List ℕ)
         record {
           state = behind.0;
           of_row = behind.1;
-          marks = ap (λ (l : List Bool). marked l p) behind.2 ∙ next.1 ∙ stepped;
+          marks = ap (λ (l : List Bool). mark_classes l p) behind.2 ∙ next.1 ∙ stepped;
           word = behind_word behind.0 behind.3;
           edge = behind.4;
         }

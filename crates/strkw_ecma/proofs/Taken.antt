@@ -11,11 +11,11 @@ use Rattle.strkw_ecma.specs.Glances.{are_told}
 use Rattle.strkw_ecma.specs.Size.{search_steps, max_steps}
 use Rattle.strkw_ecma.specs.Syntax.{Disjunction}
 use Rattle.strkw_ecma.specs.Patterns.{pattern}
-use Rattle.strkw_ecma.specs.Mirror.{mirror, facing, along, is_backward, sought, sought_in}
+use Rattle.strkw_ecma.specs.Mirror.{mirror, mirror_if, along, is_backward, target, sought_in}
 use Rattle.strkw_ecma.specs.Front.{Part, parts, steps_of_parts}
-use Rattle.strkw_ecma.specs.machine.Marks.{unmarked}
-use Rattle.strkw_ecma.specs.machine.Sizes.{capped}
-use Rattle.strkw_ecma.specs.machine.Reading.{small, when}
+use Rattle.strkw_ecma.specs.machine.Marks.{is_unmarked}
+use Rattle.strkw_ecma.specs.machine.Sizes.{cap_steps}
+use Rattle.strkw_ecma.specs.machine.Reading.{keep_small, when}
 use Rattle.strkw_ecma.specs.machine.Makers.{patterns}
 use Rattle.strkw_ecma.specs.machine.Search.{found_in, search, are_parts_found, are_parts_clean}
 use Rattle.strkw_ecma.specs.machine.Outcomes.{outcome_of_read}
@@ -37,8 +37,8 @@ pub forth_pass : (n : Bool) (p : Pattern) → is_backward p ≡ false
 forth_pass n p along_it = record {
   negated = refl;
   backward = sym along_it;
-  alike = subst (λ (b : Bool). Alike p (facing b p)) (sym along_it) (alike_refl p);
-  steps = subst (λ (b : Bool). search_steps p ≡ search_steps (facing b p)) (sym along_it) refl;
+  alike = subst (λ (b : Bool). Alike p (mirror_if b p)) (sym along_it) (alike_refl p);
+  steps = subst (λ (b : Bool). search_steps p ≡ search_steps (mirror_if b p)) (sym along_it) refl;
 }
 
 -- and any other from its end on
@@ -49,8 +49,8 @@ back_pass n p q turned u =
     record {
       negated = refl;
       backward = sym turned;
-      alike = subst (λ (b : Bool). Alike q (facing b p)) (sym turned) u;
-      steps = subst (λ (b : Bool). search_steps q ≡ search_steps (facing b p)) (sym turned)
+      alike = subst (λ (b : Bool). Alike q (mirror_if b p)) (sym turned) u;
+      steps = subst (λ (b : Bool). search_steps q ≡ search_steps (mirror_if b p)) (sym turned)
           (told_steps q (u.told ∙ told) ∙ u.steps told ∙ sym (told_steps (mirror p) told));
     }
 
@@ -78,14 +78,14 @@ clean_same (x ∷ xs) [] u = absurd u
 clean_same (x ∷ xs) (a ∷ us) u = both_same _ _ _ _ u.0.alike.clean (clean_same xs us u.1)
 
 -- one is looked for from the end only where its lookaheads are told from there
-one_faced : (p q : Pattern) (b : Bool) → b ≡ is_backward p → are_told q ≡ are_told (sought p) → (not b || are_told q) ≡ true
+one_faced : (p q : Pattern) (b : Bool) → b ≡ is_backward p → are_told q ≡ are_told (target p) → (not b || are_told q) ≡ true
 one_faced p q b way told = by_test (is_backward p) refl
   where
     -- by whether it is
     by_test : (c : Bool) → is_backward p ≡ c → (not b || are_told q) ≡ true
     by_test false e = ap (λ (x : Bool). not x || are_told q) (way ∙ e)
     by_test true e =
-        ap (λ (x : Bool). not x || are_told q) (way ∙ e) ∙ told ∙ ap (λ (x : Bool). are_told (facing x p)) e
+        ap (λ (x : Bool). not x || are_told q) (way ∙ e) ∙ told ∙ ap (λ (x : Bool). are_told (mirror_if x p)) e
         ∙ and_right (not (are_told p)) _ e
 
 -- so it is of each pass
@@ -115,15 +115,15 @@ both : {A B C : Type 0} → A ↔ B → B ↔ C → A ↔ C
 both e f = (λ a. f.0 (e.0 a), λ c. e.1 (f.1 c))
 
 -- a pass comes to the search of its part
-pass_found : (x : Pass) (a : Part) (text : List ℕ) → IsPass x a → unmarked (sought a.pattern) ≡ true
+pass_found : (x : Pass) (a : Part) (text : List ℕ) → IsPass x a → is_unmarked (target a.pattern) ≡ true
     → found_in x.pattern (along x.backward text) ≡ search a.pattern text
 pass_found x a text u c =
-    let same : Found x.pattern (along x.backward text) ↔ Found (sought a.pattern) (sought_in a.pattern text) =
-    subst (λ (b : Bool). Found x.pattern (along b text) ↔ Found (sought a.pattern) (sought_in a.pattern text)) (sym u.backward)
-    (found_alike x.pattern (sought a.pattern) (sought_in a.pattern text) u.alike) in
-    same_answer (Found (sought a.pattern) (sought_in a.pattern text)) _ _
+    let same : Found x.pattern (along x.backward text) ↔ Found (target a.pattern) (sought_in a.pattern text) =
+    subst (λ (b : Bool). Found x.pattern (along b text) ↔ Found (target a.pattern) (sought_in a.pattern text)) (sym u.backward)
+    (found_alike x.pattern (target a.pattern) (sought_in a.pattern text) u.alike) in
+    same_answer (Found (target a.pattern) (sought_in a.pattern text)) _ _
     (both (found_in_right x.pattern (along x.backward text) (u.alike.clean ∙ c)) same)
-    (found_in_right (sought a.pattern) (sought_in a.pattern text) c)
+    (found_in_right (target a.pattern) (sought_in a.pattern text) c)
 
 -- so passes come to what the parts do
 pub found_same : (xs : List Pass) (us : List Part) (text : List ℕ) → ArePasses xs us → are_parts_clean us ≡ true
@@ -135,26 +135,26 @@ found_same (x ∷ xs) (a ∷ us) text u c =
     both_same _ _ _ _
     (ap (λ (n : Bool). differ n (found_in x.pattern (along x.backward text))) u.0.negated
     ∙ ap (differ a.negated) (pass_found x a text u.0 (and_left _ _ c)))
-    (found_same xs us text u.1 (and_right (unmarked (sought a.pattern)) _ c))
+    (found_same xs us text u.1 (and_right (is_unmarked (target a.pattern)) _ c))
 
 -- a pattern that is small is taken
-taken_so : (p : Pattern) → steps_of_parts (parts p) ≤ max_steps → small patterns (Some p) ≡ Some p
-taken_so p small = ap (λ (b : Bool). when b (Some p)) (le-leb (steps_of_parts (parts p)) max_steps small)
+taken_so : (p : Pattern) → steps_of_parts (parts p) ≤ max_steps → keep_small patterns (Some p) ≡ Some p
+taken_so p keep_small = ap (λ (b : Bool). when b (Some p)) (le-leb (steps_of_parts (parts p)) max_steps keep_small)
 
 -- and one that is not small is not
-not_small : (p : Pattern) → nat_le (steps_of_parts (parts p)) max_steps ≡ false → small patterns (Some p) ≡ None
+not_small : (p : Pattern) → nat_le (steps_of_parts (parts p)) max_steps ≡ false → keep_small patterns (Some p) ≡ None
 not_small p large = ap (λ (b : Bool). when b (Some p)) large
 
 module _ (v : Vec CodePass Global) (p : Pattern) (are : ArePasses (passes_of v.items) (parts p)) where
   -- what is looked for of a pattern that is taken
-  pub comes_to : (s : ℕ) → s ≡ capped (steps_of_passes (passes_of v.items)) → s ≤ max_steps
-      → ComesTo (Some v) (small patterns (Some p))
+  pub comes_to : (s : ℕ) → s ≡ cap_steps (steps_of_passes (passes_of v.items)) → s ≤ max_steps
+      → ComesTo (Some v) (keep_small patterns (Some p))
   comes_to s is h =
-      let small : steps_of_parts (parts p) ≤ max_steps = omega (arith, is, h, steps_same (passes_of v.items) (parts p) are) in
-      subst (ComesTo (Some v)) (sym (taken_so p small)) record { passes = are; small = small }
+      let keep_small : steps_of_parts (parts p) ≤ max_steps = omega (arith, is, h, steps_same (passes_of v.items) (parts p) are) in
+      subst (ComesTo (Some v)) (sym (taken_so p keep_small)) record { passes = are; small = keep_small }
 
   -- nothing is, where it is not small
-  pub none_small : (s : ℕ) → s ≡ capped (steps_of_passes (passes_of v.items)) → max_steps < s → ComesTo None (small patterns (Some p))
+  pub none_small : (s : ℕ) → s ≡ cap_steps (steps_of_passes (passes_of v.items)) → max_steps < s → ComesTo None (keep_small patterns (Some p))
   none_small s is h =
       let large : max_steps < steps_of_parts (parts p) = omega (arith, is, h, steps_same (passes_of v.items) (parts p) are) in
       subst (ComesTo None) (sym (not_small p (lt-leb (steps_of_parts (parts p)) max_steps large))) tt

@@ -6,7 +6,7 @@ use Rattle.std.proofs.lemmas.Bool.{eq-eqb}
 use Rattle.strkw_ecma.specs.Tree.{Pattern}
 use Rattle.strkw_ecma.specs.machine.Marks.{leaves, step}
 use Rattle.strkw_ecma.specs.machine.Search.{search_from}
-use Rattle.strkw_ecma.specs.machine.Table.{entry_at, found, row_after, walk}
+use Rattle.strkw_ecma.specs.machine.Table.{entry_at, found_row, row_after, walk}
 
 -- from its place on a text is the character there, and what stands from the next place on
 pub at_place : (text : List ℕ) (k next c : ℕ) → k < length text → c ≡ get_or text k c → next ≡ suc k → drop k text ≡ c ∷ drop next text
@@ -23,7 +23,7 @@ module _ (column : ℕ → Option ℕ) (end : ℕ) (entries text rest : List ℕ
     (entry_is : entry ≡ entry_at entries row k) where
   -- what an entry comes to: the pattern is found, or the walk goes on from its row
   Turn : ℕ → Option Bool
-  Turn e = if e == found then Some true else walk column end entries (row_after end row e) rest
+  Turn e = if e == found_row then Some true else walk column end entries (row_after end row e) rest
 
   -- the entry of the character comes to the answer
   here : Turn entry ≡ answer
@@ -34,20 +34,20 @@ module _ (column : ℕ → Option ℕ) (end : ℕ) (entries text rest : List ℕ
       ∙ sym (ap (walk column end entries row) begins) ∙ so_far
 
   -- where it says that the pattern is found, the answer is true
-  pub turn_found : entry ≡ found → Some true ≡ answer
+  pub turn_found : entry ≡ found_row → Some true ≡ answer
   unfolding Turn
   turn_found e = sym (rw (eq-eqb _ _ e) refl) ∙ here
 
   -- where it does not, the walk from the row that it leads to comes to the answer
-  pub turn_goes : (to : ℕ) → to ≡ row_after end row entry → (entry == found) ≡ false → walk column end entries to rest ≡ answer
+  pub turn_goes : (to : ℕ) → to ≡ row_after end row entry → (entry == found_row) ≡ false → walk column end entries to rest ≡ answer
   unfolding Turn
   turn_goes to f e = ap (λ (r : ℕ). walk column end entries r rest) f ∙ sym (rw e refl) ∙ here
 
 -- at the end of the text the entry of the last column tells the answer
 pub walk_ends : (column : ℕ → Option ℕ) (end : ℕ) (entries text : List ℕ) (row entry : ℕ) (answer : Option Bool)
-    → walk column end entries row text ≡ answer → text ≡ [] → entry ≡ entry_at entries row end → Some (entry == found) ≡ answer
+    → walk column end entries row text ≡ answer → text ≡ [] → entry ≡ entry_at entries row end → Some (entry == found_row) ≡ answer
 walk_ends column end entries text row entry answer so_far none is =
-    ap (λ (x : ℕ). Some (x == found)) is ∙ sym (ap (walk column end entries row) none) ∙ so_far
+    ap (λ (x : ℕ). Some (x == found_row)) is ∙ sym (ap (walk column end entries row) none) ∙ so_far
 
 -- a walk over the rows that a search has at hand is one over those of the table
 pub walk_of_rows : (column : ℕ → Option ℕ) (row : ℕ) (text : List ℕ) {end end' : ℕ} {entries entries' : List ℕ} → end ≡ end' → entries ≡ entries'
@@ -57,9 +57,9 @@ walk_of_rows column row text {end} {end'} {entries} {entries'} same_end same_ent
 
 -- a relation of rows to states of the search that each entry keeps
 module _ (column : ℕ → Option ℕ) (end : ℕ) (entries : List ℕ) (At : ℕ → Pattern → Option ℕ → Type 0)
-    (ends : (row : ℕ) (p : Pattern) (b : Option ℕ) → At row p b → (entry_at entries row end == found) ≡ leaves b None p true)
+    (ends : (row : ℕ) (p : Pattern) (b : Option ℕ) → At row p b → (entry_at entries row end == found_row) ≡ leaves b None p true)
     (finds : (row : ℕ) (p : Pattern) (b : Option ℕ) (c k : ℕ) → column c ≡ Some k → At row p b
-    → (entry_at entries row k == found) ≡ leaves b (Some c) p true)
+    → (entry_at entries row k == found_row) ≡ leaves b (Some c) p true)
     (goes : (row : ℕ) (p : Pattern) (b : Option ℕ) (c k : ℕ) → column c ≡ Some k → At row p b → leaves b (Some c) p true ≡ false
     → At (row_after end row (entry_at entries row k)) (step b (Some c) p true) (Some c)) where
   -- the search goes on where nothing is found

@@ -2,10 +2,10 @@
 use Rattle.std.proofs.Common.{◌≡◌, ℕ, zero, suc, ◌+◌, ◌-◌, Bool, true, false, List, refl, sym, ap, ◌∙◌, if◌then◌else◌, arith}
 use Rattle.strkw_ecma.specs.Tree.{Pattern, empty, class, cat, alt, star, lookbehind, lookahead}
 use Rattle.strkw_ecma.specs.declared.tree.CharSet.{CharSet}
-use Rattle.strkw_ecma.specs.Patterns.{Times, any_times, some_times, once_at_most, exact_times, least_times, range_times, repeated, quantified_pattern}
+use Rattle.strkw_ecma.specs.Patterns.{Times, any_times, some_times, once_at_most, exact_times, least_times, range_times, repetition, quantified_pattern}
 use Rattle.strkw_ecma.specs.Program.{is_class, is_empty, alternatives}
 use Rattle.strkw_ecma.specs.Size.{steps_of, steps, spread}
-use Rattle.strkw_ecma.specs.machine.Sizes.{capped, spread_if}
+use Rattle.strkw_ecma.specs.machine.Sizes.{cap_steps, spread_if}
 use Rattle.strkw_ecma.proofs.Counterparts.{spread_nothing, spread_class, spread_look}
 use Rattle.strkw_ecma.proofs.Sizes.{behind_steps}
 
@@ -40,7 +40,7 @@ same_class_if true p = spread_class p
 same_class_if false p = refl
 
 -- of what is repeated
-copies_spread : (n : ℕ) (p : Pattern) → spread (repeated n p) ≡ repeated n (spread p)
+copies_spread : (n : ℕ) (p : Pattern) → spread (repetition n p) ≡ repetition n (spread p)
 copies_spread zero p = refl
 copies_spread (suc n) p = ap (cat (spread p)) (copies_spread n p)
 
@@ -52,8 +52,8 @@ times_spread once_at_most p = refl
 times_spread (exact_times n) p = copies_spread n p
 times_spread (least_times n) p = ap (λ (q : Pattern). cat q (star (spread p))) (copies_spread n p)
 times_spread (range_times n m) p =
-    ap (λ (q : Pattern). cat q (spread (repeated (m - n) (alt empty p)))) (copies_spread n p)
-    ∙ ap (cat (repeated n (spread p))) (copies_spread (m - n) (alt empty p))
+    ap (λ (q : Pattern). cat q (spread (repetition (m - n) (alt empty p)))) (copies_spread n p)
+    ∙ ap (cat (repetition n (spread p))) (copies_spread (m - n) (alt empty p))
 
 -- the same where there may be no marks
 pub times_if : (b : Bool) (t : Times) (p : Pattern) → spread_if b (quantified_pattern t p) ≡ quantified_pattern t (spread_if b p)
@@ -70,18 +70,18 @@ pub ahead_if : (n : Bool) (p : Pattern) → steps (spread (lookahead n p)) ≡ 1
 ahead_if n p = omega (arith, spread_look n (spread p))
 
 -- one mark is counted as it is
-pub mark_capped : (b : Bool) → (if b then 1 else 0) ≡ capped (if b then 1 else 0)
+pub mark_capped : (b : Bool) → (if b then 1 else 0) ≡ cap_steps (if b then 1 else 0)
 mark_capped true = omega arith
 mark_capped false = omega arith
 
 -- what is counted of a pattern in either form is counted of what it is
-pub sized : (b : Bool) (p whole z : Pattern) → whole ≡ p → spread_if b p ≡ z → capped (steps z) ≡ capped (steps (spread_if b whole))
+pub sized : (b : Bool) (p whole z : Pattern) → whole ≡ p → spread_if b p ≡ z → cap_steps (steps z) ≡ cap_steps (steps (spread_if b whole))
 sized b p whole z shape is =
-    ap (λ (y : Pattern). capped (steps y)) (sym is) ∙ ap (λ (y : Pattern). capped (steps (spread_if b y))) (sym shape)
+    ap (λ (y : Pattern). cap_steps (steps y)) (sym is) ∙ ap (λ (y : Pattern). cap_steps (steps (spread_if b y))) (sym shape)
 
 -- and so among alternatives
 pub sized_beside : (b : Bool) (p whole z : Pattern) → whole ≡ p → spread_if b p ≡ z
-    → capped (steps_of (alternatives z)) ≡ capped (steps_of (alternatives (spread_if b whole)))
+    → cap_steps (steps_of (alternatives z)) ≡ cap_steps (steps_of (alternatives (spread_if b whole)))
 sized_beside b p whole z shape is =
-    ap (λ (y : Pattern). capped (steps_of (alternatives y))) (sym is)
-    ∙ ap (λ (y : Pattern). capped (steps_of (alternatives (spread_if b y)))) (sym shape)
+    ap (λ (y : Pattern). cap_steps (steps_of (alternatives y))) (sym is)
+    ∙ ap (λ (y : Pattern). cap_steps (steps_of (alternatives (spread_if b y)))) (sym shape)

@@ -4,9 +4,9 @@ use Rattle.std.proofs.Common.{Some, slice_get, refl, sym, ap, ◌∙◌, arith}
 use Rattle.std.proofs.Math.Seq.{drop-append_seam}
 use Rattle.std.proofs.lemmas.Bool.{lt-ltb, ltb-true}
 use Rattle.std.proofs.lemmas.List.{append_assoc, append-nil}
-use Rattle.strkw_ecma.specs.Program.{Instruction, copied}
-use Rattle.strkw_ecma.specs.machine.Shape.{turned, reading, peeking, instructed, instructions, are_within}
-use Rattle.strkw_ecma.specs.machine.Machine.{written, IsWithin, Writes}
+use Rattle.strkw_ecma.specs.Program.{Instruction, concat_copies}
+use Rattle.strkw_ecma.specs.machine.Shape.{turn_instruction, read_instruction, peek_instruction, instruction_of, instructions, are_within}
+use Rattle.strkw_ecma.specs.machine.Machine.{instructions_of, IsWithin, Writes}
 use Rattle.strkw_ecma.specs.declared.code.Code.{Code}
 use Rattle.strkw_ecma.specs.declared.code.Turn.{Turn as CodeTurn}
 use Rattle.strkw_ecma.specs.declared.code.Class.{Class}
@@ -17,7 +17,7 @@ use Rattle.strkw_ecma.proofs.Steps.{and_true, and_left, and_right}
 -- two lists of the code's instructions, one behind the other, stand for those of both
 pub more_instructions : (cs : List Class) (xs ys : List CodeInstruction) → instructions cs (xs ++ ys) ≡ instructions cs xs ++ instructions cs ys
 more_instructions cs [] ys = refl
-more_instructions cs (x ∷ xs) ys = ap (λ (is : List Instruction). instructed cs x ∷ is) (more_instructions cs xs ys)
+more_instructions cs (x ∷ xs) ys = ap (λ (is : List Instruction). instruction_of cs x ∷ is) (more_instructions cs xs ys)
 
 -- the code's instructions stand for as many of the definitions
 pub instruction_count : (cs : List Class) (xs : List CodeInstruction) → length (instructions cs xs) ≡ length xs
@@ -57,19 +57,20 @@ pub same_instructions : (cs ds : List Class) (xs : List CodeInstruction) → are
     → instructions (cs ++ ds) xs ≡ instructions cs xs
 same_instructions cs ds [] h = refl
 same_instructions cs ds (Read k again optional ∷ xs) h =
-    ap (λ (o : Option Class). reading again optional o ∷ instructions (cs ++ ds) xs)
+    ap (λ (o : Option Class). read_instruction again optional o ∷ instructions (cs ++ ds) xs)
     (same_class cs ds k (ltb-true k (length cs) (and_left (nat_lt k (length cs)) _ h)))
-    ∙ ap (λ (is : List Instruction). reading again optional (slice_get cs k) ∷ is) (same_instructions cs ds xs (and_right (nat_lt k (length cs)) _ h))
+    ∙ ap (λ (is : List Instruction). read_instruction again optional (slice_get cs k) ∷ is) (same_instructions cs ds xs (and_right (nat_lt k (length cs)) _ h))
 same_instructions cs ds (Peek k ∷ xs) h =
-    ap (λ (o : Option Class). peeking o ∷ instructions (cs ++ ds) xs) (same_class cs ds k (ltb-true k (length cs) (and_left (nat_lt k (length cs)) _ h)))
-    ∙ ap (λ (is : List Instruction). peeking (slice_get cs k) ∷ is) (same_instructions cs ds xs (and_right (nat_lt k (length cs)) _ h))
-same_instructions cs ds (Turn t ∷ xs) h = ap (λ (is : List Instruction). turned t ∷ is) (same_instructions cs ds xs h)
+    ap (λ (o : Option Class). peek_instruction o ∷ instructions (cs ++ ds) xs)
+    (same_class cs ds k (ltb-true k (length cs) (and_left (nat_lt k (length cs)) _ h)))
+    ∙ ap (λ (is : List Instruction). peek_instruction (slice_get cs k) ∷ is) (same_instructions cs ds xs (and_right (nat_lt k (length cs)) _ h))
+same_instructions cs ds (Turn t ∷ xs) h = ap (λ (is : List Instruction). turn_instruction t ∷ is) (same_instructions cs ds xs h)
 
 -- where nothing is written, that is what is written
 pub nothing_written : (c : Code) → Writes c c []
 nothing_written c = record {
   within = λ h. h;
-  written_is = λ h. sym (append-nil (written c));
+  written_is = λ h. sym (append-nil (instructions_of c));
   classes = omega arith;
   grows = omega arith;
 }
@@ -79,23 +80,23 @@ pub both_written : (old mid new : Code) (is js : List Instruction) → Writes ol
 both_written old mid new is js one two = record {
   within = λ h. two.within (one.within h);
   written_is =
-      λ h. two.written_is (one.within h) ∙ ap (λ (ks : List Instruction). ks ++ js) (one.written_is h) ∙ append_assoc (written old) is js;
+      λ h. two.written_is (one.within h) ∙ ap (λ (ks : List Instruction). ks ++ js) (one.written_is h) ∙ append_assoc (instructions_of old) is js;
   classes = omega (arith, one.classes, two.classes);
   grows = omega (arith, one.grows, two.grows);
 }
 
 -- what stands behind what was there is known by where it begins
-pub behind : (old : Code) (is : List Instruction) → drop (length old.instructions.items) (written old ++ is) ≡ is
+pub behind : (old : Code) (is : List Instruction) → drop (length old.instructions.items) (instructions_of old ++ is) ≡ is
 behind old is =
-    ap (λ (n : ℕ). drop n (written old ++ is)) (sym (instruction_count old.classes.items old.instructions.items))
-    ∙ drop-append_seam (written old) is
+    ap (λ (n : ℕ). drop n (instructions_of old ++ is)) (sym (instruction_count old.classes.items old.instructions.items))
+    ∙ drop-append_seam (instructions_of old) is
 
 -- a list that is the same as what is written is written too
 pub as_written : (old new : Code) (is js : List Instruction) → (IsWithin old → is ≡ js)
     → Writes old new is → Writes old new js
 as_written old new is js same known = record {
   within = known.within;
-  written_is = λ h. known.written_is h ∙ ap (λ (ks : List Instruction). written old ++ ks) (same h);
+  written_is = λ h. known.written_is h ∙ ap (λ (ks : List Instruction). instructions_of old ++ ks) (same h);
   classes = known.classes;
   grows = known.grows;
 }
@@ -103,20 +104,20 @@ as_written old new is js same known = record {
 -- what is written first, and then copied from where it begins
 pub repeats_written : (old mid new : Code) (is : List Instruction) (from count : ℕ)
     → from ≡ length old.instructions.items → (count ≡ 0 → ⊥)
-    → Writes old mid is → Writes mid new (copied (count - 1) (drop from (written mid)))
-    → Writes old new (copied count is)
+    → Writes old mid is → Writes mid new (concat_copies (count - 1) (drop from (instructions_of mid)))
+    → Writes old new (concat_copies count is)
 repeats_written old mid new is from count begins some one more =
     let counted : suc (count - 1) ≡ count = omega (arith, some) in
     as_written old new _ _
-    (λ h. ap (λ (ks : List Instruction). is ++ copied (count - 1) ks)
-    (ap (λ (n : ℕ). drop n (written mid)) begins ∙ ap (drop (length old.instructions.items)) (one.written_is h)
+    (λ h. ap (λ (ks : List Instruction). is ++ concat_copies (count - 1) ks)
+    (ap (λ (n : ℕ). drop n (instructions_of mid)) begins ∙ ap (drop (length old.instructions.items)) (one.written_is h)
     ∙ behind old is)
-    ∙ ap (λ (n : ℕ). copied n is) counted)
+    ∙ ap (λ (n : ℕ). concat_copies n is) counted)
     (both_written old mid new is _ one more)
 
 -- an instruction that reads no class, put behind the others, is what is written
 pub turn_written : (old new : Code) (t : CodeTurn) → new.classes ≡ old.classes
-    → new.instructions.items ≡ old.instructions.items ++ Turn t ∷ [] → Writes old new (turned t ∷ [])
+    → new.instructions.items ≡ old.instructions.items ++ Turn t ∷ [] → Writes old new (turn_instruction t ∷ [])
 turn_written old new t same items =
     let longer : length new.instructions.items ≡ length old.instructions.items + 1 =
     ap length items ∙ length-append old.instructions.items (Turn t ∷ []) in
@@ -132,7 +133,7 @@ turn_written old new t same items =
 class_written : (old new : Code) (c : Class) (i : CodeInstruction) (told : Option Class → Instruction) → new.classes.items ≡ old.classes.items ++ c ∷ []
     → new.instructions.items ≡ old.instructions.items ++ i ∷ []
     → are_within (suc (length old.classes.items)) (i ∷ []) ≡ true
-    → ((cs : List Class) → instructed cs i ≡ told (slice_get cs (length old.classes.items)))
+    → ((cs : List Class) → instruction_of cs i ≡ told (slice_get cs (length old.classes.items)))
     → Writes old new (told (Some c) ∷ [])
 class_written old new c i told added items last told_is =
     let longer : length new.instructions.items ≡ length old.instructions.items + 1 =
@@ -147,7 +148,7 @@ class_written old new c i told added items last told_is =
           ∙ ap (λ (j : Instruction). instructions (old.classes.items ++ c ∷ []) old.instructions.items ++ (j ∷ [])) (told_is (old.classes.items ++ c ∷ []))
           ∙ ap (λ (is : List Instruction). is ++ (told (slice_get (old.classes.items ++ c ∷ []) (length old.classes.items)) ∷ []))
           (same_instructions old.classes.items (c ∷ []) old.instructions.items h)
-          ∙ ap (λ (o : Option Class). written old ++ (told o ∷ [])) (last_class old.classes.items c));
+          ∙ ap (λ (o : Option Class). instructions_of old ++ (told o ∷ [])) (last_class old.classes.items c));
       classes = omega (arith, more, longer);
       grows = omega (arith, longer);
     }
@@ -159,20 +160,20 @@ new_class n = and_true _ _ (lt-ltb n (suc n) (omega arith)) refl
 -- so it is with one that reads the class
 pub read_written : (old new : Code) (c : Class) (again optional : Bool) → new.classes.items ≡ old.classes.items ++ c ∷ []
     → new.instructions.items ≡ old.instructions.items ++ Read (length old.classes.items) again optional ∷ []
-    → Writes old new (reading again optional (Some c) ∷ [])
+    → Writes old new (read_instruction again optional (Some c) ∷ [])
 read_written old new c again optional added items =
-    class_written old new c _ (reading again optional) added items (new_class (length old.classes.items)) (λ cs. refl)
+    class_written old new c _ (read_instruction again optional) added items (new_class (length old.classes.items)) (λ cs. refl)
 
 -- and with one that peeks at it
 pub peek_written : (old new : Code) (c : Class) → new.classes.items ≡ old.classes.items ++ c ∷ []
     → new.instructions.items ≡ old.instructions.items ++ Peek (length old.classes.items) ∷ []
-    → Writes old new (peeking (Some c) ∷ [])
-peek_written old new c added items = class_written old new c _ peeking added items (new_class (length old.classes.items)) (λ cs. refl)
+    → Writes old new (peek_instruction (Some c) ∷ [])
+peek_written old new c added items = class_written old new c _ peek_instruction added items (new_class (length old.classes.items)) (λ cs. refl)
 
 -- copies stand one behind another, and it is one which is last
-pub one_more_copy : {A : Type 0} (n : ℕ) (xs : List A) → copied n xs ++ xs ≡ copied (suc n) xs
+pub one_more_copy : {A : Type 0} (n : ℕ) (xs : List A) → concat_copies n xs ++ xs ≡ concat_copies (suc n) xs
 one_more_copy zero xs = sym (append-nil xs)
-one_more_copy (suc n) xs = append_assoc xs (copied n xs) xs ∙ ap (λ ys. xs ++ ys) (one_more_copy n xs)
+one_more_copy (suc n) xs = append_assoc xs (concat_copies n xs) xs ∙ ap (λ ys. xs ++ ys) (one_more_copy n xs)
 
 -- the instructions from a place on are those that the code has from there on
 pub drop_instructions : (cs : List Class) (n : ℕ) (xs : List CodeInstruction) → drop n (instructions cs xs) ≡ instructions cs (drop n xs)
@@ -181,10 +182,10 @@ drop_instructions cs (suc n) [] = refl
 drop_instructions cs (suc n) (x ∷ xs) = drop_instructions cs n xs
 
 -- copies of the code's instructions stand for copies of those that these stand for
-pub copied_instructions : (cs : List Class) (n : ℕ) (xs : List CodeInstruction) → instructions cs (copied n xs) ≡ copied n (instructions cs xs)
+pub copied_instructions : (cs : List Class) (n : ℕ) (xs : List CodeInstruction) → instructions cs (concat_copies n xs) ≡ concat_copies n (instructions cs xs)
 copied_instructions cs zero xs = refl
 copied_instructions cs (suc n) xs =
-    more_instructions cs xs (copied n xs) ∙ ap (λ (is : List Instruction). instructions cs xs ++ is) (copied_instructions cs n xs)
+    more_instructions cs xs (concat_copies n xs) ∙ ap (λ (is : List Instruction). instructions cs xs ++ is) (copied_instructions cs n xs)
 
 -- from each place on a list reads only from so many classes, where all of it does
 pub within_rest : (n k : ℕ) (xs : List CodeInstruction) → are_within n xs ≡ true → are_within n (drop k xs) ≡ true
@@ -195,26 +196,26 @@ within_rest n (suc k) (Peek j ∷ xs) h = within_rest n k xs (and_right (nat_lt 
 within_rest n (suc k) (Turn t ∷ xs) h = within_rest n k xs h
 
 -- and so do copies of it
-within_copies : (n k : ℕ) (xs : List CodeInstruction) → are_within n xs ≡ true → are_within n (copied k xs) ≡ true
+within_copies : (n k : ℕ) (xs : List CodeInstruction) → are_within n xs ≡ true → are_within n (concat_copies k xs) ≡ true
 within_copies n zero xs h = refl
-within_copies n (suc k) xs h = within_more n xs (copied k xs) h (within_copies n k xs h)
+within_copies n (suc k) xs h = within_more n xs (concat_copies k xs) h (within_copies n k xs h)
 
 -- copies of what stands from a place on, put behind all, are what is written
 pub copies_written : (old new : Code) (from times : ℕ) → new.classes ≡ old.classes
-    → new.instructions.items ≡ old.instructions.items ++ copied times (drop from old.instructions.items)
-    → Writes old new (copied times (drop from (written old)))
+    → new.instructions.items ≡ old.instructions.items ++ concat_copies times (drop from old.instructions.items)
+    → Writes old new (concat_copies times (drop from (instructions_of old)))
 copies_written old new from times same items =
-    let longer : length new.instructions.items ≡ length old.instructions.items + length (copied times (drop from old.instructions.items)) =
+    let longer : length new.instructions.items ≡ length old.instructions.items + length (concat_copies times (drop from old.instructions.items)) =
     ap length items ∙ length-append old.instructions.items _ in
     let classes = ap (λ cs. length cs.items) same in
     record {
       within = λ h. rw (same, items) (within_more _ old.instructions.items _ h (within_copies _ times _ (within_rest _ from old.instructions.items h)));
       written_is = λ h.
           rw (same, items)
-          (more_instructions old.classes.items old.instructions.items (copied times (drop from old.instructions.items))
-          ∙ ap (λ (is : List Instruction). written old ++ is)
+          (more_instructions old.classes.items old.instructions.items (concat_copies times (drop from old.instructions.items))
+          ∙ ap (λ (is : List Instruction). instructions_of old ++ is)
           (copied_instructions old.classes.items times (drop from old.instructions.items)
-          ∙ ap (copied times) (sym (drop_instructions old.classes.items from old.instructions.items))));
+          ∙ ap (concat_copies times) (sym (drop_instructions old.classes.items from old.instructions.items))));
       classes = omega (arith, classes, longer);
       grows = omega (arith, longer);
     }

@@ -6,7 +6,7 @@ use Rattle.strkw_ecma.specs.Tree.{Look, start, end, boundary, no_boundary, Patte
 use Rattle.strkw_ecma.specs.Tree.{look, cat, alt, star, plus, lookbehind, lookahead}
 use Rattle.strkw_ecma.specs.Glances.{is_glance}
 use Rattle.strkw_ecma.specs.Meaning.{Found, Unless}
-use Rattle.strkw_ecma.specs.Mirror.{sought}
+use Rattle.strkw_ecma.specs.Mirror.{target}
 use Rattle.strkw_ecma.specs.Size.{search_steps}
 use Rattle.strkw_ecma.specs.declared.front.Lead.{Lead}
 use Rattle.strkw_ecma.specs.declared.front.Lead.TheVariants.{Nothing, Anchored, Past}
@@ -130,4 +130,4 @@ AreFound (x ∷ xs) text = Unless x.negated (Found x.pattern text) × AreFound x
 -- of what is looked for of each
 abbrev pub steps_of_parts : List Part → ℕ
 steps_of_parts [] = 0
-steps_of_parts (x ∷ xs) = search_steps (sought x.pattern) + steps_of_parts xs
+steps_of_parts (x ∷ xs) = search_steps (target x.pattern) + steps_of_parts xs

@@ -26,9 +26,9 @@ mirror (lookbehind n p) = lookahead n (mirror p)
 mirror (lookahead n p) = lookbehind n (mirror p)
 
 -- as they are, or from the end
-abbrev pub facing : Bool → Pattern → Pattern
-facing false p = p
-facing true p = mirror p
+abbrev pub mirror_if : Bool → Pattern → Pattern
+mirror_if false p = p
+mirror_if true p = mirror p
 
 abbrev pub along : Bool → List ℕ → List ℕ
 along false text = text
@@ -40,8 +40,8 @@ abbrev pub is_backward : Pattern → Bool
 is_backward p = not (are_told p) && are_told (mirror p)
 
 -- what is looked for then, and in which text
-abbrev pub sought : Pattern → Pattern
-sought p = facing (is_backward p) p
+abbrev pub target : Pattern → Pattern
+target p = mirror_if (is_backward p) p
 
 abbrev pub sought_in : Pattern → List ℕ → List ℕ
 sought_in p = along (is_backward p)

@@ -34,18 +34,18 @@ times (exactly ds) = exact_times (number ds)
 times (at_least ds) = least_times (number ds)
 times (from_to ds es) = range_times (number ds) (number es)
 
-abbrev pub repeated : ℕ → Pattern → Pattern
-repeated zero p = empty
-repeated (suc n) p = cat p (repeated n p)
+abbrev pub repetition : ℕ → Pattern → Pattern
+repetition zero p = empty
+repetition (suc n) p = cat p (repetition n p)
 
 -- so often, and then as often as is left, each of which may be missing
 abbrev pub quantified_pattern : Times → Pattern → Pattern
 quantified_pattern any_times p = star p
 quantified_pattern some_times p = plus p
 quantified_pattern once_at_most p = alt empty p
-quantified_pattern (exact_times n) p = repeated n p
-quantified_pattern (least_times n) p = cat (repeated n p) (star p)
-quantified_pattern (range_times n m) p = cat (repeated n p) (repeated (m - n) (alt empty p))
+quantified_pattern (exact_times n) p = repetition n p
+quantified_pattern (least_times n) p = cat (repetition n p) (star p)
+quantified_pattern (range_times n m) p = cat (repetition n p) (repetition (m - n) (alt empty p))
 
 -- how many copies of what it repeats it takes
 abbrev pub copies : Times → ℕ

@@ -100,9 +100,9 @@ abbrev mutual
   alternatives (lookahead n p) = look_begin n ∷ (glance p ++ (look_end n ∷ []))
 
 -- so many times
-abbrev pub copied : {A : Type 0} → ℕ → List A → List A
-copied zero xs = []
-copied (suc n) xs = xs ++ copied n xs
+abbrev pub concat_copies : {A : Type 0} → ℕ → List A → List A
+concat_copies zero xs = []
+concat_copies (suc n) xs = xs ++ concat_copies n xs
 
 abbrev pub is_loop : Instruction → Bool
 is_loop (read again optional n rs) = false

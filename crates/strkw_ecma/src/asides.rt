@@ -1,9 +1,9 @@
 //! Lookaheads that are looked for by themselves, at each place of a text, before what asks for them.
 
 ghost use Rattle.std.specs.Prelude.{◌≡◌, ◌++◌, [], false, List, IfOk, if◌then◌else◌};
-ghost use Rattle.strkw_ecma.specs.Program.{copied};
+ghost use Rattle.strkw_ecma.specs.Program.{concat_copies};
 ghost use Rattle.strkw_ecma.specs.Tree.{cat, end, look, start};
-ghost use Rattle.strkw_ecma.specs.machine.Shape.{outlined, quantifier_of};
+ghost use Rattle.strkw_ecma.specs.machine.Shape.{outline_pattern, quantifier_of};
 ghost use Rattle.strkw_ecma.specs.machine.Slots.{all_copies, slot as spec_slot};
 
 use crate::outline::{Outline, Quantifier};
@@ -19,7 +19,7 @@ pub(crate) struct Aside {
 
 // Where a text begins, or where it ends.
 fn edge(is_start: bool) -> Outline
-    ensures { outlined result ≡ look (if is_start then start else end) }
+    ensures { outline_pattern result ≡ look (if is_start then start else end) }
 {
     if is_start {
         Outline::Start
@@ -30,13 +30,13 @@ fn edge(is_start: bool) -> Outline
 
 // What stands for a lookahead: a mark, which is set at each place.
 fn slot(alloc: Global, negated: bool) -> Result<Outline, AllocError>
-    ensures { IfOk result (λ o. outlined o ≡ spec_slot negated false) }
+    ensures { IfOk result (λ o. outline_pattern o ≡ spec_slot negated false) }
 {
     let mark = Outline::Class {
         negated: false,
         sets: Vec::new(alloc),
     };
-    mark.behind(alloc, negated)
+    mark.into_lookbehind(alloc, negated)
 }
 
 // Adds some, so many times.
@@ -46,7 +46,7 @@ fn add_copies(
     times: u64,
 ) -> Result<(), AllocError>
     ensures { IfOk result (λ _.
-        told.new.items ≡ told.old.items ++ copied times more.now) }
+        told.new.items ≡ told.old.items ++ concat_copies times more.now) }
 {
     for _ in 0..times {
         told.extend_from_slice(more)?;
@@ -82,9 +82,10 @@ impl Outline {
         asides: &mut Vec<Aside>,
         told: &mut Vec<Option<usize>>,
     ) -> Result<Outline, AllocError>
-        requires { MayBePut (outlined self) }
+        requires { MayBePut (outline_pattern self) }
         ensures { IfOk result (λ o. (fs : List Quest) → AreAsides [] (quests asides.old.items) fs
-            → PutsAside is_backward (outlined self) (outlined o) fs (quests asides.new.items)
+            → PutsAside is_backward (outline_pattern self) (outline_pattern o) fs
+            (quests asides.new.items)
             told.old.items told.new.items) }
     {
         match self {
@@ -137,9 +138,10 @@ impl Outline {
         asides: &mut Vec<Aside>,
         told: &mut Vec<Option<usize>>,
     ) -> Result<Outline, AllocError>
-        requires { MayBePut (cat (outlined first.value) (outlined second.value)) }
+        requires { MayBePut (cat (outline_pattern first.value) (outline_pattern second.value)) }
         ensures { IfOk result (λ o. (fs : List Quest) → AreAsides [] (quests asides.old.items) fs
-            → PutsBoth is_backward (outlined first.value) (outlined second.value) (outlined o) fs
+            → PutsBoth is_backward (outline_pattern first.value) (outline_pattern second.value)
+            (outline_pattern o) fs
             (quests asides.new.items) told.old.items told.new.items) }
     {
         let first = Box::into_inner(first).put_aside(alloc, is_backward, asides, told)?;
@@ -158,9 +160,9 @@ impl Outline {
         asides: &mut Vec<Aside>,
         told: &mut Vec<Option<usize>>,
     ) -> Result<Outline, AllocError>
-        requires { MayBePut (outlined self) }
+        requires { MayBePut (outline_pattern self) }
         ensures { IfOk result (λ o. (fs : List Quest) → AreAsides [] (quests asides.old.items) fs
-            → PutsLook is_ahead negated is_backward (outlined self) (outlined o) fs
+            → PutsLook is_ahead negated is_backward (outline_pattern self) (outline_pattern o) fs
             (quests asides.new.items) told.old.items told.new.items) }
     {
         if is_ahead {
@@ -169,7 +171,7 @@ impl Outline {
             slot(alloc, negated)
         } else {
             let body = self.put_aside(alloc, is_backward, asides, told)?;
-            body.behind(alloc, negated)
+            body.into_lookbehind(alloc, negated)
         }
     }
 
@@ -181,9 +183,10 @@ impl Outline {
         is_backward: bool,
         asides: &mut Vec<Aside>,
     ) -> Result<usize, AllocError>
-        requires { MayBePut (outlined self) }
-        ensures { IfOk result (λ number. (fs : List Quest) → AreAsides [] (quests asides.old.items) fs
-            → TellsAside is_backward (outlined self) number fs (quests asides.new.items)) }
+        requires { MayBePut (outline_pattern self) }
+        ensures { IfOk result
+            (λ number. (fs : List Quest) → AreAsides [] (quests asides.old.items) fs
+            → TellsAside is_backward (outline_pattern self) number fs (quests asides.new.items)) }
     {
         let aside = self.set_aside(alloc, is_backward, asides)?;
         let number = asides.len();
@@ -200,9 +203,9 @@ impl Outline {
         is_backward: bool,
         asides: &mut Vec<Aside>,
     ) -> Result<Aside, AllocError>
-        requires { MayBePut (outlined self) }
+        requires { MayBePut (outline_pattern self) }
         ensures { IfOk result (λ x. (fs : List Quest) → AreAsides [] (quests asides.old.items) fs
-            → SetsAside is_backward (outlined self) (quest x) fs (quests asides.new.items)) }
+            → SetsAside is_backward (outline_pattern self) (quest x) fs (quests asides.new.items)) }
     {
         let mut told = Vec::new(alloc);
         let pattern = self.put_aside(alloc, is_backward, asides, &mut told)?;

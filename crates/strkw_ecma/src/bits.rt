@@ -20,7 +20,7 @@ pub(crate) struct Bits {
 }
 
 // A bit, shifted to its place above some.
-fn raised(bit: bool, place: u32) -> u64
+fn raise(bit: bool, place: u32) -> u64
     requires { place < 64 }
     ensures { result ≡ (if bit then 1 else 0) * 2 ^ place }
 {
@@ -45,7 +45,7 @@ impl Bits {
     pub(crate) fn push(&mut self, bit: bool) -> Result<(), AllocError>
         ensures { IfOk result (λ _. bits_of self.new ≡ bits_of self.old ++ (bit ∷ [])) }
     {
-        let last = raised(bit, self.filled) | self.last;
+        let last = raise(bit, self.filled) | self.last;
         if self.filled + 1 < WORD_BITS {
             self.last = last;
             self.filled += 1;

@@ -2,9 +2,9 @@
 
 ghost use Rattle.std.specs.Prelude.{◌≡◌, ◌++◌, IfOk, OnOk, option_map};
 ghost use Rattle.strkw_ecma.specs.Classes.{item_sets, range};
-ghost use Rattle.strkw_ecma.specs.machine.Shape.{outlined};
+ghost use Rattle.strkw_ecma.specs.machine.Shape.{outline_pattern};
 ghost use Rattle.strkw_ecma.specs.machine.Parts.{item_of, class_of};
-ghost use Rattle.strkw_ecma.specs.machine.Reading.{took, took_dash, whole_class, new_class};
+ghost use Rattle.strkw_ecma.specs.machine.Reading.{take_atom, take_dash, whole_class, new_class};
 
 use crate::outline::Outline;
 use crate::properties::Property;
@@ -80,7 +80,7 @@ impl ClassReader {
     pub(crate) fn with_item(self, item: Item) -> Result<Option<ClassReader>, AllocError>
         ensures { let k = class_of self in
             IfOk result (λ r. option_map class_of r
-            ≡ took k.negated k.ranges k.pending (item_of item)) }
+            ≡ take_atom k.negated k.ranges k.pending (item_of item)) }
     {
         let ClassReader {
             negated,
@@ -111,7 +111,7 @@ impl ClassReader {
     // After a `-`, which stands for itself where no item is before it.
     pub(crate) fn with_dash(self) -> Result<Option<ClassReader>, AllocError>
         ensures { let k = class_of self in
-            IfOk result (λ r. option_map class_of r ≡ took_dash k.negated k.ranges k.pending) }
+            IfOk result (λ r. option_map class_of r ≡ take_dash k.negated k.ranges k.pending) }
     {
         match self.pending {
             Pending::One(item) => {
@@ -129,7 +129,7 @@ impl ClassReader {
     // The whole class, where the closing bracket stands here.
     pub(crate) fn close(self) -> Result<Outline, AllocError>
         ensures { let k = class_of self in
-            IfOk result (λ t. outlined t ≡ whole_class k.negated k.ranges k.pending) }
+            IfOk result (λ t. outline_pattern t ≡ whole_class k.negated k.ranges k.pending) }
     {
         let ClassReader {
             negated,

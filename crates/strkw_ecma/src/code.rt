@@ -1,8 +1,8 @@
 //! Instructions one behind another, as they are written for a pattern.
 
 ghost use Rattle.std.specs.Prelude.{◌≡◌, ◌≤◌, ◌+◌, ◌-◌, ◌++◌, [], ◌∷◌, List, false, length, take, drop, IfOk};
-ghost use Rattle.strkw_ecma.specs.Program.{read, peek as spec_peek, copied, read_count as spec_read_count, is_loop, has_loop, asks_boundary};
-ghost use Rattle.strkw_ecma.specs.machine.Shape.{turned, instructed};
+ghost use Rattle.strkw_ecma.specs.Program.{read, peek as spec_peek, concat_copies, read_count as spec_read_count, is_loop, has_loop, asks_boundary};
+ghost use Rattle.strkw_ecma.specs.machine.Shape.{turn_instruction, instruction_of};
 ghost use Rattle.strkw_ecma.specs.declared.code.Class.{Class};
 
 use crate::tree::CharSet;
@@ -53,7 +53,7 @@ pub(crate) enum Instruction {
 
 impl Instruction {
     fn begins_loop(&self) -> bool
-        ensures { (classes : List Class) → result ≡ is_loop (instructed classes self.now) }
+        ensures { (classes : List Class) → result ≡ is_loop (instruction_of classes self.now) }
     {
         matches!(self, Instruction::Turn(Turn::StarBegin | Turn::PlusBegin))
     }
@@ -66,10 +66,10 @@ pub(crate) struct Code {
 }
 
 impl Code {
-    ghost use Rattle.strkw_ecma.specs.machine.Machine.{written, IsWithin, Writes};
+    ghost use Rattle.strkw_ecma.specs.machine.Machine.{instructions_of, IsWithin, Writes};
 
     pub(crate) fn new(alloc: Global) -> Code
-        ensures nothing { written result ≡ [] }
+        ensures nothing { instructions_of result ≡ [] }
         ensures within { IsWithin result }
         ensures classes { length result.classes.items ≡ 0 }
     {
@@ -80,7 +80,7 @@ impl Code {
     }
 
     pub(crate) fn turn(&mut self, turn: Turn) -> Result<(), AllocError>
-        ensures { IfOk result (λ _. Writes self.old self.new (turned turn ∷ [])) }
+        ensures { IfOk result (λ _. Writes self.old self.new (turn_instruction turn ∷ [])) }
     {
         self.instructions.push(Instruction::Turn(turn))?;
         Ok(())
@@ -148,7 +148,7 @@ impl Code {
     pub(crate) fn copy(&mut self, from: usize, times: u32) -> Result<(), AllocError>
         requires { from ≤ length self.old.instructions.items }
         ensures { IfOk result (λ _. Writes self.old self.new
-            (copied times (drop from (written self.old)))) }
+            (concat_copies times (drop from (instructions_of self.old)))) }
     {
         let end = self.instructions.len();
         for _ in 0..times {
@@ -159,7 +159,7 @@ impl Code {
 
     /// How many classes are read.
     pub(crate) fn read_count(&self) -> usize
-        ensures { result ≡ spec_read_count (written self.now) }
+        ensures { result ≡ spec_read_count (instructions_of self.now) }
     {
         let mut count = 0;
         for instruction in &self.instructions {
@@ -172,7 +172,7 @@ impl Code {
 
     /// How many instructions stand before the first loop.
     pub(crate) fn before_loops(&self) -> usize
-        ensures { has_loop (take result (written self.now)) ≡ false }
+        ensures { has_loop (take result (instructions_of self.now)) ≡ false }
     {
         for (place, instruction) in self.instructions.as_slice().iter().enumerate() {
             if instruction.begins_loop() {
@@ -184,7 +184,7 @@ impl Code {
 
     /// Whether `\b` or `\B` stands in it.
     pub(crate) fn has_boundary(&self) -> bool
-        ensures { result ≡ asks_boundary (written self.now) }
+        ensures { result ≡ asks_boundary (instructions_of self.now) }
     {
         for instruction in &self.instructions {
             if matches!(

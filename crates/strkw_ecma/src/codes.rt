@@ -2,7 +2,7 @@
 
 ghost use Rattle.std.specs.Prelude.{◌≡◌};
 ghost use Rattle.strkw_ecma.specs.machine.Makers.{pair_value as spec_pair_value, hex_with};
-ghost use Rattle.strkw_ecma.specs.machine.CodeReading.{made as spec_made, all_read as spec_all_read, digit_read as spec_digit_read, on_digit as spec_on_digit, point_digit, value_or, coding_next};
+ghost use Rattle.strkw_ecma.specs.machine.CodeReading.{make as spec_make, read_all as spec_read_all, read_digit as spec_read_digit, on_digit as spec_on_digit, point_digit, value_or, coding_next};
 ghost use Rattle.strkw_ecma.specs.machine.CodeParts.{width_of, coding_of, coded_of};
 
 const MAX_CODE_POINT: u32 = 0x10FFFF;
@@ -45,8 +45,8 @@ pub(crate) enum Coded {
 }
 
 // The character with this number, where a text can have it.
-fn made(number: u32) -> Coded
-    ensures { coded_of result ≡ spec_made number }
+fn make(number: u32) -> Coded
+    ensures { coded_of result ≡ spec_make number }
 {
     match char::from_u32(number) {
         Some(c) => Coded::Makes(c),
@@ -81,21 +81,21 @@ pub(crate) fn with_hex_digit(number: u32, c: char) -> Option<u32>
 
 impl Width {
     // Where no digit is still to come.
-    fn all_read(self, number: u32) -> Coded
-        ensures { coded_of result ≡ spec_all_read (width_of self) number }
+    fn read_all(self, number: u32) -> Coded
+        ensures { coded_of result ≡ spec_read_all (width_of self) number }
     {
         match self {
-            Width::Byte => made(number),
+            Width::Byte => make(number),
             Width::Unit => {
                 if 0xD800 <= number && number <= 0xDBFF {
                     Coded::Goes(Coding::Lead(number as u16))
                 } else {
-                    made(number)
+                    make(number)
                 }
             }
             Width::Trail(lead) => {
                 if 0xDC00 <= number && number <= 0xDFFF {
-                    made(pair(lead, number as u16))
+                    make(pair(lead, number as u16))
                 } else {
                     Coded::Fails
                 }
@@ -104,28 +104,28 @@ impl Width {
     }
 
     // Behind one more digit.
-    fn digit_read(self, wanted: Wanted, number: u32) -> Coded
-        ensures { coded_of result ≡ spec_digit_read (width_of self) wanted number }
+    fn read_digit(self, wanted: Wanted, number: u32) -> Coded
+        ensures { coded_of result ≡ spec_read_digit (width_of self) wanted number }
     {
         match wanted {
-            Wanted::One => self.all_read(number),
+            Wanted::One => self.read_all(number),
             Wanted::Two => Coded::Goes(Coding::Digits(self, Wanted::One, number)),
             Wanted::Three => Coded::Goes(Coding::Digits(self, Wanted::Two, number)),
             Wanted::Four => Coded::Goes(Coding::Digits(self, Wanted::Three, number)),
         }
     }
 
-    fn on_digit(self, wanted: Wanted, number: u32, c: char) -> Coded
+    fn take_digit(self, wanted: Wanted, number: u32, c: char) -> Coded
         ensures { coded_of result ≡ spec_on_digit (width_of self) wanted number c }
     {
         match with_hex_digit(number, c) {
-            Some(longer) => self.digit_read(wanted, longer),
+            Some(longer) => self.read_digit(wanted, longer),
             None => Coded::Fails,
         }
     }
 }
 
-fn on_point_digit(number: Option<u32>, c: char) -> Coded
+fn take_point_digit(number: Option<u32>, c: char) -> Coded
     ensures { coded_of result ≡ point_digit (hex_with (value_or 0 number) c) }
 {
     match with_hex_digit(number.unwrap_or(0), c) {
@@ -140,18 +140,18 @@ impl Coding {
         ensures { coded_of result ≡ coding_next (coding_of self) c }
     {
         match self {
-            Coding::Letter if c.is_ascii_alphabetic() => made(u32::from(c) % 32),
+            Coding::Letter if c.is_ascii_alphabetic() => make(u32::from(c) % 32),
             Coding::UnitOpened if c == '{' => Coded::Goes(Coding::PointOpened(None)),
-            Coding::UnitOpened => Width::Unit.on_digit(Wanted::Four, 0, c),
-            Coding::Digits(width, wanted, number) => width.on_digit(wanted, number, c),
+            Coding::UnitOpened => Width::Unit.take_digit(Wanted::Four, 0, c),
+            Coding::Digits(width, wanted, number) => width.take_digit(wanted, number, c),
             Coding::Lead(lead) if c == '\\' => Coded::Goes(Coding::LeadEscaped(lead)),
             Coding::LeadEscaped(lead) if c == 'u' => Coded::Goes(Coding::Digits(
                 Width::Trail(lead),
                 Wanted::Four,
                 0,
             )),
-            Coding::PointOpened(number) if c != '}' => on_point_digit(number, c),
-            Coding::PointOpened(Some(number)) => made(number),
+            Coding::PointOpened(number) if c != '}' => take_point_digit(number, c),
+            Coding::PointOpened(Some(number)) => make(number),
             _ => Coded::Fails,
         }
     }

@@ -93,7 +93,7 @@ fn finders_of(alloc: Global, passes: Vec<Pass>) -> Result<Vec<PartFinder>, Alloc
 // Whether each part is found in the text, or is not, as it is to be.
 fn are_found(alloc: Global, parts: &[PartFinder], text: &str) -> Result<bool, AllocError>
     ensures found { IfOk result (λ found. found ≡ are_found_by parts.now (chars text.now)) }
-    ensures memory { have_rows parts.now ≡ false → IsOk result }
+    ensures out_of_memory { have_rows parts.now ≡ false → IsOk result }
 {
     for part in parts {
         if part.is_found(alloc, text)? == part.negated {
@@ -116,7 +116,7 @@ impl RegexEngine for EcmaMatcher {
     fn is_match(&self, alloc: Global, text: &str) -> Result<bool, EngineFailure>
         ensures answer { IsAnswer (engine_outcome self.now (chars text.now)) result }
         ensures never_fails { takes_memory self.now ≡ false → IsOk result }
-        ensures memory { IfErr result (λ e. e ≡ EngineFailure.Memory) }
+        ensures out_of_memory { IfErr result (λ e. e ≡ EngineFailure.Memory) }
     {
         match are_found(alloc, &self.parts, text) {
             Ok(is_found) => Ok(is_found),

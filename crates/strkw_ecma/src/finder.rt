@@ -6,11 +6,11 @@ ghost use Rattle.strkw_ecma.specs.Glances.{are_told};
 ghost use Rattle.strkw_ecma.specs.Mirror.{along};
 ghost use Rattle.strkw_ecma.specs.Size.{steps, search_steps, max_steps};
 ghost use Rattle.strkw_ecma.specs.machine.Machine.{pattern_of};
-ghost use Rattle.strkw_ecma.specs.machine.Marks.{is_clean, unmarked};
-ghost use Rattle.strkw_ecma.specs.machine.Needed.{needed as spec_needed};
+ghost use Rattle.strkw_ecma.specs.machine.Marks.{is_clean, is_unmarked};
+ghost use Rattle.strkw_ecma.specs.machine.Needed.{needed_char as spec_needed};
 ghost use Rattle.strkw_ecma.specs.machine.Search.{search_from};
 ghost use Rattle.strkw_ecma.specs.machine.Searches.{IsSearchedBy};
-ghost use Rattle.strkw_ecma.specs.machine.Shape.{outlined};
+ghost use Rattle.strkw_ecma.specs.machine.Shape.{outline_pattern};
 ghost use Rattle.strkw_ecma.specs.declared.table.Table.{Table};
 
 use crate::finding::is_found;
@@ -38,10 +38,10 @@ pub(crate) struct Finder {
 
 impl Finder {
     pub(crate) fn of(alloc: Global, outline: Outline) -> Result<Finder, AllocError>
-        requires small { steps (outlined outline) ≤ max_steps }
-        requires clean { is_clean (outlined outline) ≡ true }
-        requires told { are_told (outlined outline) ≡ true }
-        ensures { IfOk result (λ f. pattern_of f.program ≡ outlined outline) }
+        requires small { steps (outline_pattern outline) ≤ max_steps }
+        requires clean { is_clean (outline_pattern outline) ≡ true }
+        requires told { are_told (outline_pattern outline) ≡ true }
+        ensures { IfOk result (λ f. pattern_of f.program ≡ outline_pattern outline) }
     {
         let needed = outline.needed_byte();
         let program = Program::of(alloc, outline)?;
@@ -93,11 +93,11 @@ impl Search {
     ghost use Rattle.strkw_ecma.specs.machine.Search.{found_in};
 
     fn of(alloc: Global, pattern: Outline, is_backward: bool) -> Result<Search, AllocError>
-        requires bare { unmarked (outlined pattern) ≡ true }
-        requires faced { (not is_backward || are_told (outlined pattern)) ≡ true }
-        requires small { search_steps (outlined pattern) ≤ max_steps }
+        requires bare { is_unmarked (outline_pattern pattern) ≡ true }
+        requires faced { (not is_backward || are_told (outline_pattern pattern)) ≡ true }
+        requires small { search_steps (outline_pattern pattern) ≤ max_steps }
         ensures { IfOk result (λ s. (text : List ℕ)
-            → is_found_by s text ≡ found_in (outlined pattern) (along is_backward text)) }
+            → is_found_by s text ≡ found_in (outline_pattern pattern) (along is_backward text)) }
     {
         if pattern.is_told() {
             let finder = Finder::of(alloc, pattern)?;
@@ -116,7 +116,7 @@ impl Search {
 
     fn is_found(&self, alloc: Global, text: &str) -> Result<bool, AllocError>
         ensures found { IfOk result (λ found. found ≡ is_found_by self.now (chars text.now)) }
-        ensures memory { has_rows self.now ≡ false → IsOk result }
+        ensures out_of_memory { has_rows self.now ≡ false → IsOk result }
     {
         match self {
             Search::Plain {
@@ -143,12 +143,12 @@ impl PartFinder {
     ghost use Rattle.strkw_ecma.specs.machine.Search.{found_in};
 
     pub(crate) fn of(alloc: Global, pass: Pass) -> Result<PartFinder, AllocError>
-        requires bare { unmarked (outlined pass.pattern) ≡ true }
-        requires faced { (not pass.is_backward || are_told (outlined pass.pattern)) ≡ true }
-        requires small { search_steps (outlined pass.pattern) ≤ max_steps }
+        requires bare { is_unmarked (outline_pattern pass.pattern) ≡ true }
+        requires faced { (not pass.is_backward || are_told (outline_pattern pass.pattern)) ≡ true }
+        requires small { search_steps (outline_pattern pass.pattern) ≤ max_steps }
         ensures negated { IfOk result (λ f. f.negated ≡ pass.negated) }
         ensures found { IfOk result (λ f. (text : List ℕ) → is_found_by f.search text
-            ≡ found_in (outlined pass.pattern) (along pass.is_backward text)) }
+            ≡ found_in (outline_pattern pass.pattern) (along pass.is_backward text)) }
     {
         let Pass {
             negated,
@@ -165,7 +165,7 @@ impl PartFinder {
     pub(crate) fn is_found(&self, alloc: Global, text: &str) -> Result<bool, AllocError>
         ensures found { IfOk result (λ found.
             found ≡ is_found_by self.now.search (chars text.now)) }
-        ensures memory { has_rows self.now.search ≡ false → IsOk result }
+        ensures out_of_memory { has_rows self.now.search ≡ false → IsOk result }
     {
         self.search.is_found(alloc, text)
     }

@@ -5,7 +5,7 @@ ghost use Rattle.std.specs.Prelude.{◌≡◌, true, IfOk, List};
 ghost use Rattle.strkw_ecma.specs.Tree.{Pattern, cat};
 ghost use Rattle.strkw_ecma.specs.Front.{first_lead as spec_first_lead, lead_behind, reads_nothing as spec_reads_nothing, is_far as spec_is_far, is_apart_behind};
 ghost use Rattle.strkw_ecma.specs.machine.Fronts.{Cuts};
-ghost use Rattle.strkw_ecma.specs.machine.Shape.{is_plain, outlined};
+ghost use Rattle.strkw_ecma.specs.machine.Shape.{is_plain, outline_pattern};
 
 use crate::outline::Outline;
 use std::alloc::{AllocError, Global};
@@ -20,8 +20,8 @@ pub(crate) enum Lead {
 
 impl Lead {
     // With one term more.
-    fn behind(self, term: &Outline) -> Lead
-        ensures { result ≡ lead_behind self (outlined term.now) }
+    fn with_term(self, term: &Outline) -> Lead
+        ensures { result ≡ lead_behind self (outline_pattern term.now) }
     {
         match self {
             Lead::Nothing => term.first_lead(),
@@ -38,7 +38,7 @@ impl Lead {
 
     // Whether a term behind it is looked for by itself.
     fn parts_off(self, term: &Outline) -> bool
-        ensures { result ≡ is_apart_behind self (outlined term.now) }
+        ensures { result ≡ is_apart_behind self (outline_pattern term.now) }
     {
         matches!(self, Lead::Anchored) && term.is_far()
     }
@@ -60,19 +60,19 @@ pub(crate) struct Cut {
 
 impl Cut {
     // With one term more, which is appended to the fronts where it is looked for by itself.
-    fn behind(
+    fn with_term(
         self,
         alloc: Global,
         term: Outline,
         fronts: &mut Vec<Front>,
     ) -> Result<Cut, AllocError>
         ensures { (p : Pattern) → (old : List Front) → Cuts self p old fronts.old.items
-            → IfOk result (λ c. Cuts c (cat p (outlined term)) old fronts.new.items) }
+            → IfOk result (λ c. Cuts c (cat p (outline_pattern term)) old fronts.new.items) }
     {
         if self.lead.parts_off(&term) {
             return self.with_front(alloc, term, fronts);
         }
-        let lead = self.lead.behind(&term);
+        let lead = self.lead.with_term(&term);
         let rest = self.rest.then(alloc, term)?;
         Ok(Cut { lead, rest })
     }
@@ -84,9 +84,9 @@ impl Cut {
         term: Outline,
         fronts: &mut Vec<Front>,
     ) -> Result<Cut, AllocError>
-        requires { is_apart_behind self.lead (outlined term) ≡ true }
+        requires { is_apart_behind self.lead (outline_pattern term) ≡ true }
         ensures { (p : Pattern) → (old : List Front) → Cuts self p old fronts.old.items
-            → IfOk result (λ c. Cuts c (cat p (outlined term)) old fronts.new.items) }
+            → IfOk result (λ c. Cuts c (cat p (outline_pattern term)) old fronts.new.items) }
     {
         match term {
             Outline::Ahead(negated, body) => {
@@ -102,7 +102,7 @@ impl Cut {
 impl Outline {
     // What it is as a first term.
     fn first_lead(&self) -> Lead
-        ensures { result ≡ spec_first_lead (outlined self.now) }
+        ensures { result ≡ spec_first_lead (outline_pattern self.now) }
     {
         match self {
             Outline::Empty => Lead::Nothing,
@@ -126,7 +126,7 @@ impl Outline {
     }
 
     fn reads_nothing(&self) -> bool
-        ensures { result ≡ spec_reads_nothing (outlined self.now) }
+        ensures { result ≡ spec_reads_nothing (outline_pattern self.now) }
     {
         match self {
             Outline::Empty
@@ -143,7 +143,7 @@ impl Outline {
 
     // Whether it is a lookahead for what the next character does not tell.
     fn is_far(&self) -> bool
-        ensures { result ≡ spec_is_far (outlined self.now) }
+        ensures { result ≡ spec_is_far (outline_pattern self.now) }
     {
         match self {
             Outline::Ahead(_, body) => !body.is_glance(),
@@ -164,12 +164,13 @@ impl Outline {
     #[cycle(cut)]
     pub(crate) fn cut(self, alloc: Global, fronts: &mut Vec<Front>) -> Result<Cut, AllocError>
         requires { is_plain self ≡ true }
-        ensures { IfOk result (λ c. Cuts c (outlined self) fronts.old.items fronts.new.items) }
+        ensures { IfOk result
+            (λ c. Cuts c (outline_pattern self) fronts.old.items fronts.new.items) }
     {
         match self {
             Outline::Then(first, second) => {
                 let cut = Box::into_inner(first).cut(alloc, fronts)?;
-                cut.behind(alloc, Box::into_inner(second), fronts)
+                cut.with_term(alloc, Box::into_inner(second), fronts)
             }
             term => Ok(Cut {
                 lead: term.first_lead(),

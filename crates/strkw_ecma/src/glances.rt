@@ -3,7 +3,7 @@
 ghost use Rattle.std.specs.Prelude.{◌≡◌};
 ghost use Rattle.strkw_ecma.specs.Glances.{is_glance as spec_is_glance, are_told};
 ghost use Rattle.strkw_ecma.specs.Mirror.{is_backward, mirror};
-ghost use Rattle.strkw_ecma.specs.machine.Shape.{outlined, quantifier_of, is_never as spec_is_never};
+ghost use Rattle.strkw_ecma.specs.machine.Shape.{outline_pattern, quantifier_of, is_never as spec_is_never};
 
 use crate::outline::{Outline, Quantifier};
 
@@ -20,7 +20,7 @@ impl Outline {
     /// Whether the next character tells what a lookahead for it finds.
     #[cycle(is_glance)]
     pub(crate) fn is_glance(&self) -> bool
-        ensures { result ≡ spec_is_glance (outlined self.now) }
+        ensures { result ≡ spec_is_glance (outline_pattern self.now) }
     {
         match self {
             Outline::Then(first, second) => first.is_nothing() && second.is_glance(),
@@ -44,7 +44,7 @@ impl Outline {
     /// Whether that is so of each lookahead in it.
     #[cycle(is_told)]
     pub(crate) fn is_told(&self) -> bool
-        ensures { result ≡ are_told (outlined self.now) }
+        ensures { result ≡ are_told (outline_pattern self.now) }
     {
         match self {
             Outline::Then(first, second) => first.is_told() && second.is_told(),
@@ -65,7 +65,7 @@ impl Outline {
     #[tactic(auto, using(crate::proofs::Backwards::glance_cat_back))]
     #[cycle(is_glance_back)]
     fn is_glance_back(&self) -> bool
-        ensures { result ≡ spec_is_glance (mirror (outlined self.now)) }
+        ensures { result ≡ spec_is_glance (mirror (outline_pattern self.now)) }
     {
         match self {
             Outline::Then(first, second) => first.is_nothing() && second.is_glance_back(),
@@ -90,7 +90,7 @@ impl Outline {
     #[tactic(auto, using(crate::proofs::Backwards::told_cat_back))]
     #[cycle(is_told_back)]
     fn is_told_back(&self) -> bool
-        ensures { result ≡ are_told (mirror (outlined self.now)) }
+        ensures { result ≡ are_told (mirror (outline_pattern self.now)) }
     {
         match self {
             Outline::Then(first, second) => first.is_told_back() && second.is_told_back(),
@@ -109,7 +109,7 @@ impl Outline {
 
     /// Whether only from the end of a text on each lookahead is told.
     pub(crate) fn is_sought_back(&self) -> bool
-        ensures { result ≡ is_backward (outlined self.now) }
+        ensures { result ≡ is_backward (outline_pattern self.now) }
     {
         !self.is_told() && self.is_told_back()
     }

@@ -13,7 +13,7 @@ enum Front {
 }
 
 impl Front {
-    fn after(self, c: char) -> Front
+    fn next(self, c: char) -> Front
         ensures { result ≡ spec_after self c }
     {
         match self {
@@ -42,7 +42,7 @@ pub(crate) fn is_apart(source: &str) -> bool
         if !front.may_precede(c) {
             return false;
         }
-        front = front.after(c);
+        front = front.next(c);
     }
     true
 }

@@ -6,7 +6,7 @@ ghost use Rattle.strkw_ecma.specs.machine.Columns.{answers as spec_answers};
 ghost use Rattle.strkw_ecma.specs.machine.Marks.{classes as spec_classes, is_clean};
 ghost use Rattle.strkw_ecma.specs.machine.Machine.{pattern_of, AreReadsOfAll};
 ghost use Rattle.strkw_ecma.specs.machine.Searches.{IsSearchedBy};
-ghost use Rattle.strkw_ecma.specs.machine.Table.{found, AreRows, IsDraft, IsTable};
+ghost use Rattle.strkw_ecma.specs.machine.Table.{found_row, AreRows, IsDraft, IsTable};
 
 use crate::columns::{MOST_COLUMNS, answers, tells};
 use crate::program::Program;
@@ -187,7 +187,7 @@ impl Draft {
 
 // The entry of a state for the end of a text.
 fn end_entry(is_found: bool) -> u16
-    ensures { (result == found) ≡ is_found }
+    ensures { (result == found_row) ≡ is_found }
 {
     if is_found { FOUND as u16 } else { 0 }
 }

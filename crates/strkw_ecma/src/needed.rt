@@ -4,8 +4,8 @@
 ghost use Rattle.std.specs.Prelude.{◌≡◌, ◌<◌, IsTrue};
 ghost use Rattle.std.specs.Str.{chars};
 ghost use Rattle.strkw_text.specs.Delimiters.{Without};
-ghost use Rattle.strkw_ecma.specs.machine.Needed.{common as spec_common, is_sure as spec_is_sure, needed, only_character as spec_only_character};
-ghost use Rattle.strkw_ecma.specs.machine.Shape.{outlined, quantifier_of};
+ghost use Rattle.strkw_ecma.specs.machine.Needed.{common as spec_common, is_sure as spec_is_sure, needed_char, only_character as spec_only_character};
+ghost use Rattle.strkw_ecma.specs.machine.Shape.{outline_pattern, quantifier_of};
 
 use crate::outline::{Outline, Quantifier};
 use crate::tree::CharSet;
@@ -55,7 +55,7 @@ impl Outline {
     /// one.
     #[cycle(needed_byte)]
     pub(crate) fn needed_byte(&self) -> Option<u8>
-        ensures { result ≡ needed (outlined self.now) }
+        ensures { result ≡ needed_char (outline_pattern self.now) }
     {
         match self {
             Outline::Class { negated, sets } => {

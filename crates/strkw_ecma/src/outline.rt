@@ -4,7 +4,7 @@ ghost use Rattle.std.specs.Prelude.{◌≡◌, true, false, IfOk, MatchOption};
 ghost use Rattle.strkw_ecma.specs.Tree.{class as spec_class, cat, alt, lookbehind, lookahead};
 ghost use Rattle.strkw_ecma.specs.Patterns.{quantified_pattern};
 ghost use Rattle.strkw_ecma.specs.Program.{is_class, is_empty};
-ghost use Rattle.strkw_ecma.specs.machine.Shape.{is_plain, outlined, quantifier_of};
+ghost use Rattle.strkw_ecma.specs.machine.Shape.{is_plain, outline_pattern, quantifier_of};
 
 use crate::tree::CharSet;
 use std::alloc::{AllocError, Global};
@@ -39,42 +39,44 @@ pub(crate) enum Outline {
 
 impl Outline {
     pub(crate) fn then(self, alloc: Global, second: Outline) -> Result<Outline, AllocError>
-        ensures pattern { IfOk result (λ t. outlined t ≡ cat (outlined self) (outlined second)) }
+        ensures pattern { IfOk result
+            (λ t. outline_pattern t ≡ cat (outline_pattern self) (outline_pattern second)) }
         ensures plain { IfOk result (λ t. is_plain t ≡ is_plain self) }
     {
         Ok(Outline::Then(Box::new(alloc, self)?, Box::new(alloc, second)?))
     }
 
     pub(crate) fn or(self, alloc: Global, other: Outline) -> Result<Outline, AllocError>
-        ensures pattern { IfOk result (λ t. outlined t ≡ alt (outlined self) (outlined other)) }
+        ensures pattern { IfOk result
+            (λ t. outline_pattern t ≡ alt (outline_pattern self) (outline_pattern other)) }
         ensures plain { IfOk result (λ t. is_plain t ≡ true) }
     {
         Ok(Outline::Or(Box::new(alloc, self)?, Box::new(alloc, other)?))
     }
 
     pub(crate) fn repeat(self, alloc: Global, quantifier: Quantifier) -> Result<Outline, AllocError>
-        ensures { IfOk result (λ t. outlined t
-            ≡ quantified_pattern (quantifier_of quantifier) (outlined self)) }
+        ensures { IfOk result (λ t. outline_pattern t
+            ≡ quantified_pattern (quantifier_of quantifier) (outline_pattern self)) }
     {
         Ok(Outline::Repeated(quantifier, Box::new(alloc, self)?))
     }
 
-    pub(crate) fn behind(self, alloc: Global, negated: bool) -> Result<Outline, AllocError>
-        ensures { IfOk result (λ t. outlined t ≡ lookbehind negated (outlined self)) }
+    pub(crate) fn into_lookbehind(self, alloc: Global, negated: bool) -> Result<Outline, AllocError>
+        ensures { IfOk result (λ t. outline_pattern t ≡ lookbehind negated (outline_pattern self)) }
     {
         Ok(Outline::Behind(negated, Box::new(alloc, self)?))
     }
 
-    pub(crate) fn ahead(self, alloc: Global, negated: bool) -> Result<Outline, AllocError>
-        ensures { IfOk result (λ t. outlined t ≡ lookahead negated (outlined self)) }
+    pub(crate) fn into_lookahead(self, alloc: Global, negated: bool) -> Result<Outline, AllocError>
+        ensures { IfOk result (λ t. outline_pattern t ≡ lookahead negated (outline_pattern self)) }
     {
         Ok(Outline::Ahead(negated, Box::new(alloc, self)?))
     }
 
     /// Its class, where it is one character of a class.
     pub(crate) fn class(&self) -> Option<(bool, &[CharSet])>
-        ensures { MatchOption result (is_class (outlined self.now) ≡ false)
-            (λ class. outlined self.now ≡ spec_class false class.0 class.1.now) }
+        ensures { MatchOption result (is_class (outline_pattern self.now) ≡ false)
+            (λ class. outline_pattern self.now ≡ spec_class false class.0 class.1.now) }
     {
         match self {
             Outline::Class { negated, sets } => Some((*negated, sets.as_slice())),
@@ -94,7 +96,7 @@ impl Outline {
     /// Whether it is nothing.
     #[tactic(auto, using(crate::proofs::Shapes::shapes))]
     pub(crate) fn is_nothing(&self) -> bool
-        ensures { result ≡ is_empty (outlined self.now) }
+        ensures { result ≡ is_empty (outline_pattern self.now) }
     {
         match self {
             Outline::Empty => true,

@@ -4,14 +4,14 @@ ghost use Rattle.std.specs.Prelude.{◌≡◌, ◌∷◌, ◌++◌, true, List, 
 ghost use Rattle.strkw_ecma.specs.Front.{Part, parts};
 ghost use Rattle.strkw_ecma.specs.machine.Fronts.{part_view, parts_view};
 ghost use Rattle.strkw_ecma.specs.machine.Makers.{patterns};
-ghost use Rattle.strkw_ecma.specs.machine.Reading.{small};
+ghost use Rattle.strkw_ecma.specs.machine.Reading.{keep_small};
 ghost use Rattle.strkw_ecma.specs.machine.Passes.{ArePasses, ComesTo, IsPass, pass_of, passes_of, steps_of_passes};
-ghost use Rattle.strkw_ecma.specs.machine.Shape.{is_plain, outlined};
-ghost use Rattle.strkw_ecma.specs.machine.Sizes.{capped};
+ghost use Rattle.strkw_ecma.specs.machine.Shape.{is_plain, outline_pattern};
+ghost use Rattle.strkw_ecma.specs.machine.Sizes.{cap_steps};
 
 use crate::front::Front;
 use crate::outline::Outline;
-use crate::size::{MAX_STEPS, together};
+use crate::size::{MAX_STEPS, sum_of};
 use std::alloc::{AllocError, Global};
 
 /// A part of a pattern, or where the search goes from the end of the text on, its mirror.
@@ -26,7 +26,7 @@ impl Pass {
     // Along the text, but for where only from its end on each lookahead is told by the next character.
     fn of(alloc: Global, negated: bool, pattern: Outline) -> Result<Pass, AllocError>
         ensures { IfOk result (λ p. IsPass (pass_of p)
-            record { negated = negated; pattern = outlined pattern }) }
+            record { negated = negated; pattern = outline_pattern pattern }) }
     {
         if !pattern.is_sought_back() {
             return Ok(Pass {
@@ -35,7 +35,7 @@ impl Pass {
                 pattern,
             });
         }
-        let mirrored = pattern.mirrored(alloc)?;
+        let mirrored = pattern.mirror(alloc)?;
         Ok(Pass {
             negated,
             is_backward: true,
@@ -65,7 +65,8 @@ fn with_fronts(
 /// What is left of a pattern, and the lookaheads at its front that are looked for by themselves.
 pub(crate) fn passes_for(alloc: Global, outline: Outline) -> Result<Vec<Pass>, AllocError>
     requires { is_plain outline ≡ true }
-    ensures { IfOk result (λ made. ArePasses (passes_of made.items) (parts (outlined outline))) }
+    ensures { IfOk result
+        (λ made. ArePasses (passes_of made.items) (parts (outline_pattern outline))) }
 {
     let mut fronts = Vec::new(alloc);
     let cut = outline.cut(alloc, &mut fronts)?;
@@ -76,12 +77,12 @@ pub(crate) fn passes_for(alloc: Global, outline: Outline) -> Result<Vec<Pass>, A
 
 // How many steps a search for all of them takes.
 fn steps_of(passes: &[Pass]) -> u32
-    ensures { result ≡ capped (steps_of_passes (passes_of passes.now)) }
+    ensures { result ≡ cap_steps (steps_of_passes (passes_of passes.now)) }
 {
     let mut steps = 0;
     for pass in passes {
         let is_spread = !pass.pattern.is_told();
-        steps = together(steps, pass.pattern.steps(is_spread), 0);
+        steps = sum_of(steps, pass.pattern.steps(is_spread), 0);
     }
     steps
 }
@@ -93,7 +94,7 @@ pub(crate) fn passes_if_taken(
 ) -> Result<Option<Vec<Pass>>, AllocError>
     requires { IfSome outline (λ o. is_plain o ≡ true) }
     ensures { IfOk result (λ made.
-        ComesTo made (small patterns (option_map outlined outline))) }
+        ComesTo made (keep_small patterns (option_map outline_pattern outline))) }
 {
     let Some(outline) = outline else {
         return Ok(None);

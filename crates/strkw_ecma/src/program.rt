@@ -2,11 +2,11 @@
 
 ghost use Rattle.std.specs.Prelude.{◌≡◌, ◌≤◌, true, false, length, take, IfOk};
 ghost use Rattle.strkw_ecma.specs.machine.Columns.{has_boundary as spec_has_boundary};
-ghost use Rattle.strkw_ecma.specs.machine.Marks.{leaves, step, marked, classes as spec_classes};
+ghost use Rattle.strkw_ecma.specs.machine.Marks.{leaves, step, mark_classes, classes as spec_classes};
 ghost use Rattle.strkw_ecma.specs.Program.{program, has_loop};
-ghost use Rattle.strkw_ecma.specs.machine.Shape.{outlined, instructions, are_within};
+ghost use Rattle.strkw_ecma.specs.machine.Shape.{outline_pattern, instructions, are_within};
 ghost use Rattle.strkw_ecma.specs.Size.{steps, max_steps};
-ghost use Rattle.strkw_ecma.specs.machine.Walk.{asked, followed, begun};
+ghost use Rattle.strkw_ecma.specs.machine.Walk.{asked, followed, start_following};
 
 use crate::code::{Class, Code, Instruction};
 use crate::marks::reads_class;
@@ -28,10 +28,10 @@ pub(crate) struct Program {
     pub(crate) has_boundary: bool,
     ghost within: { are_within (length code.classes.items) code.instructions.items ≡ true },
     ghost right: { instructions code.classes.items code.instructions.items
-        ≡ program (outlined outline) },
-    ghost counted: { marks ≡ spec_classes (outlined outline) },
-    ghost loops: { has_loop (take before_loops (program (outlined outline))) ≡ false },
-    ghost boundary: { has_boundary ≡ spec_has_boundary (outlined outline) },
+        ≡ program (outline_pattern outline) },
+    ghost counted: { marks ≡ spec_classes (outline_pattern outline) },
+    ghost loops: { has_loop (take before_loops (program (outline_pattern outline))) ≡ false },
+    ghost boundary: { has_boundary ≡ spec_has_boundary (outline_pattern outline) },
     ghost few: { length code.instructions.items ≤ max_steps },
     ghost few_classes: { length code.classes.items ≤ max_steps },
 }
@@ -71,8 +71,8 @@ impl Program {
 
     /// The program of what was read.
     pub(crate) fn of(alloc: Global, outline: Outline) -> Result<Program, AllocError>
-        requires { steps (outlined outline) ≤ max_steps }
-        ensures { IfOk result (λ p. pattern_of p ≡ outlined outline) }
+        requires { steps (outline_pattern outline) ≤ max_steps }
+        ensures { IfOk result (λ p. pattern_of p ≡ outline_pattern outline) }
     {
         let mut code = Code::new(alloc);
         outline.write(alloc, &mut code)?;
@@ -129,10 +129,10 @@ impl Program {
             match instructions[place] {
                 Instruction::Read { optional, .. } => {
                     at -= 1;
-                    ahead = ahead.back_over_class(optional, marks[at]);
+                    ahead = ahead.step_back_over_class(optional, marks[at]);
                 }
-                Instruction::Peek(class) => ahead = ahead.back_over_peek(reads[class]),
-                Instruction::Turn(turn) => ahead = walk.back_over(turn, ahead, last, next),
+                Instruction::Peek(class) => ahead = ahead.step_back_over_peek(reads[class]),
+                Instruction::Turn(turn) => ahead = walk.step_back(turn, ahead, last, next),
             }
         }
     }
@@ -151,10 +151,10 @@ impl Program {
         requires enough { length self.now.code.classes.items ≤ length reads.now }
         ensures left { result
             ≡ (followed last next (program_of self.now)
-            (begun (answers_of walk.old.again)) marks.old).leaves }
+            (start_following (answers_of walk.old.again)) marks.old).leaves }
         ensures marks { marks.new
             ≡ (followed last next (program_of self.now)
-            (begun (answers_of walk.old.again)) marks.old).marks }
+            (start_following (answers_of walk.old.again)) marks.old).marks }
     {
         walk.begin_forth();
         let mut enters = true;
@@ -175,7 +175,7 @@ impl Program {
                     at += 1;
                 }
                 Instruction::Peek(class) => enters &= reads[class],
-                Instruction::Turn(turn) => enters = walk.over(turn, enters, last, next),
+                Instruction::Turn(turn) => enters = walk.step_over(turn, enters, last, next),
             }
         }
         enters
@@ -191,9 +191,10 @@ impl Program {
         next: Option<char>,
     ) -> bool
         requires fits { spec_classes (pattern_of self.now) ≤ length marks.old }
-        ensures left { result ≡ leaves last next (marked marks.old (pattern_of self.now)) true }
-        ensures marks { marked marks.new (pattern_of self.now)
-            ≡ step last next (marked marks.old (pattern_of self.now)) true }
+        ensures left { result
+            ≡ leaves last next (mark_classes marks.old (pattern_of self.now)) true }
+        ensures marks { mark_classes marks.new (pattern_of self.now)
+            ≡ step last next (mark_classes marks.old (pattern_of self.now)) true }
         ensures length { length marks.new ≡ length marks.old }
     {
         room.look(&self.code.classes, next);
@@ -211,9 +212,10 @@ impl Program {
     ) -> bool
         requires fits { spec_classes (pattern_of self.now) ≤ length marks.old }
         requires reads { AreReadsOf self.now next reads.now }
-        ensures left { result ≡ leaves last next (marked marks.old (pattern_of self.now)) true }
-        ensures marks { marked marks.new (pattern_of self.now)
-            ≡ step last next (marked marks.old (pattern_of self.now)) true }
+        ensures left { result
+            ≡ leaves last next (mark_classes marks.old (pattern_of self.now)) true }
+        ensures marks { mark_classes marks.new (pattern_of self.now)
+            ≡ step last next (mark_classes marks.old (pattern_of self.now)) true }
         ensures length { length marks.new ≡ length marks.old }
     {
         self.ask(walk, reads, marks, last, next);

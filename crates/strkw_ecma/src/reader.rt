@@ -3,7 +3,7 @@
 ghost use Rattle.std.specs.Prelude.{◌≡◌, true, Some, IfOk, IfSome, is_some, option_map, ◌==◌};
 ghost use Rattle.std.specs.Str.{chars, byte};
 ghost use Rattle.strkw_ecma.specs.Patterns.{pattern};
-ghost use Rattle.strkw_ecma.specs.machine.Shape.{is_plain, outlined};
+ghost use Rattle.strkw_ecma.specs.machine.Shape.{is_plain, outline_pattern};
 ghost use Rattle.strkw_ecma.specs.Syntax.{token as spec_token};
 ghost use Rattle.strkw_ecma.specs.Names.{extension as spec_extension};
 ghost use Rattle.strkw_ecma.specs.Escapes.{escape as spec_escape};
@@ -159,7 +159,7 @@ impl Reader {
         Ok(true)
     }
 
-    fn plain(&mut self, alloc: Global, c: char) -> Result<bool, AllocError>
+    fn take_char(&mut self, alloc: Global, c: char) -> Result<bool, AllocError>
         ensures { IfOk result (λ taken. when taken (Some (parts_of self.new))
             ≡ on_token (parts_of self.old) c (spec_token c)) }
     {
@@ -183,7 +183,7 @@ impl Reader {
     }
 
     // Behind `(`.
-    fn in_group(&mut self, alloc: Global, c: char) -> Result<bool, AllocError>
+    fn take_in_group(&mut self, alloc: Global, c: char) -> Result<bool, AllocError>
         ensures { IfOk result (λ taken. when taken (Some (parts_of self.new))
             ≡ on_group (parts_of self.old) c (c == byte "?")) }
     {
@@ -192,7 +192,7 @@ impl Reader {
             return Ok(true);
         }
         if self.open(alloc, Enclosing::Group)? {
-            self.plain(alloc, c)
+            self.take_char(alloc, c)
         } else {
             Ok(false)
         }
@@ -222,22 +222,24 @@ impl Reader {
             ≡ spec_next (parts_of self.old) c) }
     {
         match mem::replace(&mut self.mode, Mode::Between) {
-            Mode::Between => self.plain(alloc, c),
+            Mode::Between => self.take_char(alloc, c),
             Mode::Escaping => self.take_escape(alloc, c),
-            Mode::Opening => self.in_group(alloc, c),
+            Mode::Opening => self.take_in_group(alloc, c),
             Mode::Extending => self.take_extension(alloc, c),
-            Mode::Counting(Count::Low(first)) => self.in_count(alloc, first, c),
-            Mode::Counting(Count::High(first, second)) => self.in_range(alloc, first, second, c),
-            Mode::ClassOpened => self.in_bracket(alloc, c),
-            Mode::Class(class) => self.class_plain(alloc, class, c),
-            Mode::ClassEscaping(class) => self.class_escaped(class, c),
+            Mode::Counting(Count::Low(first)) => self.take_in_count(alloc, first, c),
+            Mode::Counting(Count::High(first, second)) => self.take_in_range(
+                alloc, first, second, c,
+            ),
+            Mode::ClassOpened => self.take_in_bracket(alloc, c),
+            Mode::Class(class) => self.take_class_char(alloc, class, c),
+            Mode::ClassEscaping(class) => self.take_class_escape(class, c),
             Mode::Coding(coding) => self.take_code(alloc, coding.next(c)),
-            Mode::ClassCoding(class, coding) => self.class_coded(class, coding.next(c)),
-            Mode::Property(part) => self.in_property(alloc, part, c),
-            Mode::ClassProperty(class, part) => self.in_class_property(alloc, class, part, c),
-            Mode::Naming(name) => self.in_name(alloc, name, c),
-            Mode::NameEscaping(name) => self.name_escaped(name, c),
-            Mode::NameCoding(name, coding) => self.name_coded(name, coding.next(c)),
+            Mode::ClassCoding(class, coding) => self.take_class_code(class, coding.next(c)),
+            Mode::Property(part) => self.take_in_property(alloc, part, c),
+            Mode::ClassProperty(class, part) => self.take_in_class_property(alloc, class, part, c),
+            Mode::Naming(name) => self.take_in_name(alloc, name, c),
+            Mode::NameEscaping(name) => self.take_name_escape(name, c),
+            Mode::NameCoding(name, coding) => self.take_name_code(name, coding.next(c)),
         }
     }
 
@@ -250,7 +252,8 @@ impl Reader {
 
     // The tree, where the pattern may end. It is taken out of this reader.
     fn end(&mut self, alloc: Global) -> Result<Option<Outline>, AllocError>
-        ensures tree { IfOk result (λ t. option_map outlined t ≡ at_close (parts_of self.old)) }
+        ensures tree { IfOk result
+            (λ t. option_map outline_pattern t ≡ at_close (parts_of self.old)) }
         ensures plain { IfOk result (λ o. IfSome o (λ t. is_plain t ≡ true)) }
     {
         if !self.may_end() {
@@ -263,7 +266,7 @@ impl Reader {
     // The tree of a whole text, which this reader, a new one, reads.
     fn read(&mut self, alloc: Global, source: &str) -> Result<Option<Outline>, AllocError>
         requires { parts_of self.old ≡ initial patterns }
-        ensures tree { IfOk result (λ t. option_map outlined t
+        ensures tree { IfOk result (λ t. option_map outline_pattern t
             ≡ option_map pattern (spec_read_short trees (chars source.now))) }
         ensures plain { IfOk result (λ o. IfSome o (λ t. is_plain t ≡ true)) }
     {
@@ -294,7 +297,7 @@ pub(crate) fn read_passes(alloc: Global, source: &str) -> Result<Option<Vec<Pass
 }
 
 fn read_short(alloc: Global, source: &str) -> Result<Option<Outline>, AllocError>
-    ensures tree { IfOk result (λ t. option_map outlined t
+    ensures tree { IfOk result (λ t. option_map outline_pattern t
         ≡ option_map pattern (spec_read_short trees (chars source.now))) }
     ensures plain { IfOk result (λ o. IfSome o (λ t. is_plain t ≡ true)) }
 {

@@ -6,7 +6,7 @@ ghost use Rattle.strkw_ecma.specs.Syntax.{token as spec_token};
 ghost use Rattle.strkw_ecma.specs.Names.{extension as spec_extension};
 ghost use Rattle.strkw_ecma.specs.Escapes.{escape as spec_escape};
 ghost use Rattle.strkw_ecma.specs.Numbers.{is_digit};
-ghost use Rattle.strkw_ecma.specs.machine.Recognising.{state_of, standing_of, state_if, stands, with_last, then_stands, quantified, nothing_read, number_next};
+ghost use Rattle.strkw_ecma.specs.machine.Recognising.{state_of, standing_of, state_if, stands, with_last, then_stands, add_quantifier, nothing_read, number_next};
 ghost use Rattle.strkw_ecma.specs.machine.Recognising.{on_token, on_reference, on_escape, on_number, on_referring, on_group, on_extension, on_calling, next as spec_next, ends_in, is_read as spec_is_read};
 
 mod classes;
@@ -90,7 +90,7 @@ impl Recogniser {
     // Behind a quantifier, where one may stand.
     fn quantify(&mut self) -> bool
         ensures { state_if result (Some (state_of self.new))
-            ≡ then_stands (quantified (standing_of self.old.standing)) }
+            ≡ then_stands (add_quantifier (standing_of self.old.standing)) }
     {
         self.mode = Mode::Between;
         self.standing.quantify()
@@ -134,7 +134,7 @@ impl Recogniser {
     }
 
     // Between terms, where nothing is under way.
-    fn plain(&mut self, alloc: Global, c: char) -> bool
+    fn take_char(&mut self, alloc: Global, c: char) -> bool
         ensures { state_if result (Some (state_of self.new))
             ≡ on_token (standing_of self.old.standing) (spec_token c) }
     {
@@ -155,7 +155,7 @@ impl Recogniser {
     }
 
     // In a back reference by a number, which is held at the greatest.
-    fn in_reference(&mut self, alloc: Global, number: u32, c: char) -> bool
+    fn take_in_reference(&mut self, alloc: Global, number: u32, c: char) -> bool
         ensures { state_if result (Some (state_of self.new))
             ≡ on_referring (standing_of self.old.standing) number c (is_digit c) }
     {
@@ -165,7 +165,7 @@ impl Recogniser {
             return true;
         }
         self.standing.refer(number);
-        self.plain(alloc, c)
+        self.take_char(alloc, c)
     }
 
     fn take_number(&mut self, read: NumberRead) -> bool
@@ -181,7 +181,7 @@ impl Recogniser {
     }
 
     // Behind `(`.
-    fn in_group(&mut self, alloc: Global, c: char) -> Result<bool, AllocError>
+    fn take_in_group(&mut self, alloc: Global, c: char) -> Result<bool, AllocError>
         ensures { IfOk result (λ taken. state_if taken (Some (state_of self.new))
             ≡ on_group (standing_of self.old.standing) c (c == byte "?")) }
     {
@@ -189,7 +189,7 @@ impl Recogniser {
             self.mode = Mode::Extending;
             return Ok(true);
         }
-        Ok(self.standing.capture()? && self.plain(alloc, c))
+        Ok(self.standing.capture()? && self.take_char(alloc, c))
     }
 
     // Behind `(?`, where the mode is that between terms.
@@ -226,24 +226,28 @@ impl Recogniser {
             ≡ spec_next (state_of self.old) c) }
     {
         match mem::replace(&mut self.mode, Mode::Between) {
-            Mode::Between => Ok(self.plain(alloc, c)),
+            Mode::Between => Ok(self.take_char(alloc, c)),
             Mode::Escaping => Ok(self.take_escape(c)),
-            Mode::Opening => self.in_group(alloc, c),
+            Mode::Opening => self.take_in_group(alloc, c),
             Mode::Extending => self.take_extension(alloc, c),
-            Mode::ClassOpened => Ok(self.in_bracket(c)),
+            Mode::ClassOpened => Ok(self.take_in_bracket(c)),
             Mode::Calling => Ok(self.take_call(alloc, c)),
-            Mode::Counting(Count::Low(first)) => self.in_count(alloc, first, c),
-            Mode::Counting(Count::High(first, second)) => self.in_range(first, second, c),
+            Mode::Counting(Count::Low(first)) => self.take_in_count(alloc, first, c),
+            Mode::Counting(Count::High(first, second)) => self.take_in_range(first, second, c),
             Mode::Numbering(part) => Ok(self.take_number(part.next(c))),
-            Mode::Class(class) => Ok(self.class_plain(class, c)),
-            Mode::ClassEscaping(class) => Ok(self.class_escaped(class, c)),
+            Mode::Class(class) => Ok(self.take_class_char(class, c)),
+            Mode::ClassEscaping(class) => Ok(self.take_class_escape(class, c)),
             Mode::ClassNumbering(class, part) => Ok(self.class_number(class, part, c)),
-            Mode::Property(part) => self.in_property(alloc, part, c),
-            Mode::ClassProperty(class, part) => self.in_class_property(alloc, class, part, c),
-            Mode::Naming(naming, name) => self.in_name(naming, name, c),
-            Mode::NameEscaping(naming, name) => Ok(self.name_escaped(naming, name, c)),
-            Mode::NameCoding(naming, name, coding) => self.name_coded(naming, name, coding.next(c)),
-            Mode::Referring(number) => Ok(self.in_reference(alloc, number, c)),
+            Mode::Property(part) => self.take_in_property(alloc, part, c),
+            Mode::ClassProperty(class, part) => self.take_in_class_property(alloc, class, part, c),
+            Mode::Naming(naming, name) => self.take_in_name(naming, name, c),
+            Mode::NameEscaping(naming, name) => Ok(self.take_name_escape(naming, name, c)),
+            Mode::NameCoding(naming, name, coding) => self.take_name_code(
+                naming,
+                name,
+                coding.next(c),
+            ),
+            Mode::Referring(number) => Ok(self.take_in_reference(alloc, number, c)),
         }
     }
 

@@ -7,9 +7,9 @@ ghost use Rattle.strkw_ecma.specs.Tree.{Pattern};
 ghost use Rattle.strkw_ecma.specs.machine.Slots.{told_by};
 ghost use Rattle.strkw_ecma.specs.machine.Bits.{bits_of, rows_of as spec_rows_of};
 ghost use Rattle.strkw_ecma.specs.machine.Machine.{pattern_of};
-ghost use Rattle.strkw_ecma.specs.machine.Marks.{classes, is_clean, marked};
-ghost use Rattle.strkw_ecma.specs.machine.Seeking.{ends_within, row_of, rows_behind, said};
-ghost use Rattle.strkw_ecma.specs.machine.Shape.{outlined};
+ghost use Rattle.strkw_ecma.specs.machine.Marks.{classes, is_clean, mark_classes};
+ghost use Rattle.strkw_ecma.specs.machine.Seeking.{ends_within, row_of, rows_behind, row_answer};
+ghost use Rattle.strkw_ecma.specs.machine.Shape.{outline_pattern};
 
 use crate::along::{Along, char_count};
 use crate::asides::Aside;
@@ -28,7 +28,7 @@ pub(crate) struct Seeker {
 
 // What the row of a number says, with so many characters still to come.
 fn is_said(rows: &[Bits], row: usize, ahead: usize) -> bool
-    ensures { result ≡ said (spec_rows_of rows.now) ahead row }
+    ensures { result ≡ row_answer (spec_rows_of rows.now) ahead row }
 {
     match rows.get(row) {
         Some(bits) => bits.get(ahead),
@@ -40,8 +40,8 @@ fn is_said(rows: &[Bits], row: usize, ahead: usize) -> bool
 // text on.
 fn tell(marks: &mut [bool], told: &[Option<usize>], rows: &[Bits], ahead: usize)
     ensures length { length marks.new ≡ length marks.old }
-    ensures marks { (p : Pattern) → classes p ≤ length marks.old → marked marks.new p
-        ≡ told_by (said (spec_rows_of rows.now) ahead) told.now (marked marks.old p) }
+    ensures marks { (p : Pattern) → classes p ≤ length marks.old → mark_classes marks.new p
+        ≡ told_by (row_answer (spec_rows_of rows.now) ahead) told.now (mark_classes marks.old p) }
 {
     for (place, row) in told.iter().enumerate() {
         if let Some(row) = row {
@@ -53,11 +53,11 @@ fn tell(marks: &mut [bool], told: &[Option<usize>], rows: &[Bits], ahead: usize)
 }
 
 impl Seeker {
-    ghost use Rattle.strkw_ecma.specs.machine.Seekers.{IsFit, quest, seeking};
+    ghost use Rattle.strkw_ecma.specs.machine.Seekers.{IsFit, quest, seeking_of};
 
     pub(crate) fn of(alloc: Global, aside: Aside) -> Result<Seeker, AllocError>
-        requires { IsFit (outlined aside.pattern) }
-        ensures { IfOk result (λ s. seeking s ≡ quest aside) }
+        requires { IsFit (outline_pattern aside.pattern) }
+        ensures { IfOk result (λ s. seeking_of s ≡ quest aside) }
     {
         let Aside {
             is_backward,
@@ -74,7 +74,7 @@ impl Seeker {
     /// At each place of the text, from its beginning or from its end on, whether the pattern ends there.
     pub(crate) fn ends(&self, alloc: Global, text: &str, rows: &[Bits]) -> Result<Bits, AllocError>
         ensures { IfOk result (λ bits. bits_of bits
-            ≡ row_of (spec_rows_of rows.now) (chars text.now) (seeking self.now)) }
+            ≡ row_of (spec_rows_of rows.now) (chars text.now) (seeking_of self.now)) }
     {
         let mut room = Room::new();
         let mut marks = [false; MOST_INSTRUCTIONS];
@@ -95,8 +95,8 @@ impl Seeker {
 
     /// Whether the pattern is found.
     pub(crate) fn is_found(&self, text: &str, rows: &[Bits]) -> bool
-        ensures { result ≡ ends_within (spec_rows_of rows.now) (seeking self.now).told
-            (seeking self.now).pattern None (along (seeking self.now).backward (chars text.now)) }
+        ensures { let s = seeking_of self.now in result ≡ ends_within (spec_rows_of rows.now)
+            s.told s.pattern None (along s.backward (chars text.now)) }
     {
         let mut room = Room::new();
         let mut marks = [false; MOST_INSTRUCTIONS];

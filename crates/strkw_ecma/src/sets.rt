@@ -4,7 +4,7 @@ ghost use Rattle.std.specs.Prelude.{◌≡◌, true, false, [], ◌∷◌, IfOk}
 ghost use Rattle.strkw_ecma.specs.Tree.{class};
 ghost use Rattle.strkw_ecma.specs.Patterns.{one_char as spec_one_char};
 ghost use Rattle.strkw_ecma.specs.Sets.{line_ends, set_of as spec_set_of, set_ranges as spec_set_ranges, is_negative as spec_is_negative, control_char as spec_control_char};
-ghost use Rattle.strkw_ecma.specs.machine.Shape.{outlined};
+ghost use Rattle.strkw_ecma.specs.machine.Shape.{outline_pattern};
 ghost use Rattle.strkw_ecma.specs.declared.tree.CharSet.TheVariants.{Property as PropertySet};
 
 use crate::outline::Outline;
@@ -13,7 +13,7 @@ use crate::tree::CharSet;
 use std::alloc::{AllocError, Global};
 
 pub(crate) fn one_char(alloc: Global, c: char) -> Result<Outline, AllocError>
-    ensures { IfOk result (λ t. outlined t ≡ spec_one_char c) }
+    ensures { IfOk result (λ t. outline_pattern t ≡ spec_one_char c) }
 {
     Ok(Outline::Class {
         negated: false,
@@ -23,7 +23,7 @@ pub(crate) fn one_char(alloc: Global, c: char) -> Result<Outline, AllocError>
 
 // All but the ends of lines.
 pub(crate) fn dot(alloc: Global) -> Result<Outline, AllocError>
-    ensures { IfOk result (λ t. outlined t ≡ class false true line_ends) }
+    ensures { IfOk result (λ t. outline_pattern t ≡ class false true line_ends) }
 {
     Ok(Outline::Class {
         negated: true,
@@ -107,7 +107,8 @@ fn is_negative(c: char) -> bool
 }
 
 pub(crate) fn set(alloc: Global, c: char) -> Result<Outline, AllocError>
-    ensures { IfOk result (λ t. outlined t ≡ class false (spec_is_negative c) (spec_set_of c)) }
+    ensures { IfOk result
+        (λ t. outline_pattern t ≡ class false (spec_is_negative c) (spec_set_of c)) }
 {
     Ok(Outline::Class {
         negated: is_negative(c),
@@ -116,8 +117,13 @@ pub(crate) fn set(alloc: Global, c: char) -> Result<Outline, AllocError>
 }
 
 // The characters with a property, or without it.
-pub(crate) fn having(alloc: Global, lacked: bool, property: Property) -> Result<Outline, AllocError>
-    ensures { IfOk result (λ t. outlined t ≡ class false false (PropertySet lacked property ∷ [])) }
+pub(crate) fn property_outline(
+    alloc: Global,
+    lacked: bool,
+    property: Property,
+) -> Result<Outline, AllocError>
+    ensures { IfOk result
+        (λ t. outline_pattern t ≡ class false false (PropertySet lacked property ∷ [])) }
 {
     Ok(Outline::Class {
         negated: false,

@@ -4,9 +4,9 @@ ghost use Rattle.std.specs.Prelude.{◌≡◌, ◌+◌, ◌*◌, nat_le, if◌th
 ghost use Rattle.strkw_ecma.specs.Tree.{empty, alt, star, plus};
 ghost use Rattle.strkw_ecma.specs.Patterns.{quantified_pattern, copies};
 ghost use Rattle.strkw_ecma.specs.Program.{glance, alternatives};
-ghost use Rattle.strkw_ecma.specs.machine.Shape.{outlined, quantifier_of};
+ghost use Rattle.strkw_ecma.specs.machine.Shape.{outline_pattern, quantifier_of};
 ghost use Rattle.strkw_ecma.specs.Size.{steps, steps_of, max_term_steps, set_cost, class_steps as spec_class_steps};
-ghost use Rattle.strkw_ecma.specs.machine.Sizes.{capped, spread_if};
+ghost use Rattle.strkw_ecma.specs.machine.Sizes.{cap_steps, spread_if};
 
 use crate::outline::{Outline, Quantifier};
 use crate::tree::CharSet;
@@ -36,14 +36,14 @@ const STEPS_OF_A_MARK: u32 = 1;
 
 // A number of steps, up to one more than the most.
 fn cap(steps: u64) -> u32
-    ensures { result ≡ capped steps }
+    ensures { result ≡ cap_steps steps }
 {
     steps.min(u64::from(TOO_MANY)) as u32
 }
 
 /// Of both, and a few more.
-pub(crate) fn together(one: u32, other: u32, more: u32) -> u32
-    ensures { result ≡ capped (one + other + more) }
+pub(crate) fn sum_of(one: u32, other: u32, more: u32) -> u32
+    ensures { result ≡ cap_steps (one + other + more) }
 {
     cap(u64::from(one) + u64::from(other) + u64::from(more))
 }
@@ -61,7 +61,7 @@ impl CharSet {
 
 /// Of a class of these sets, up to one more than a pattern may have.
 pub(crate) fn class_steps(sets: &[CharSet]) -> u32
-    ensures { result ≡ capped (spec_class_steps sets.now) }
+    ensures { result ≡ cap_steps (spec_class_steps sets.now) }
 {
     let mut cost = 0;
     for set in sets {
@@ -90,7 +90,8 @@ impl Quantifier {
     #[tactic(auto, using(crate::proofs::Sizes::small_term))]
     pub(crate) fn is_small_for(self, body: &Outline) -> bool
         ensures { result
-            ≡ nat_le (copies (quantifier_of self) * steps (outlined body.now)) max_term_steps }
+            ≡ nat_le (copies (quantifier_of self) * steps (outline_pattern body.now))
+            max_term_steps }
     {
         self.copies() * u64::from(body.steps(false)) <= u64::from(MAX_TERM_STEPS)
     }
@@ -100,28 +101,28 @@ impl Outline {
     /// Of its program, or where `is_spread` holds, of that with a mark beside what each lookaround looks for.
     #[cycle(steps)]
     pub(crate) fn steps(&self, is_spread: bool) -> u32
-        ensures { result ≡ capped (steps (spread_if is_spread (outlined self.now))) }
+        ensures { result ≡ cap_steps (steps (spread_if is_spread (outline_pattern self.now))) }
     {
         match self {
             Outline::Empty => 0,
             Outline::Class { sets, .. } => class_steps(sets),
             Outline::Start | Outline::End | Outline::Boundary | Outline::NoBoundary => 1,
             Outline::Then(first, second) => {
-                together(first.steps(is_spread), second.steps(is_spread), 0)
+                sum_of(first.steps(is_spread), second.steps(is_spread), 0)
             }
             Outline::Or(one, other) => {
                 let steps = other.steps(is_spread);
                 if one.is_nothing() {
                     other.option_steps(steps, is_spread)
                 } else {
-                    together(one.steps_beside(is_spread), steps, STEPS_OF_A_CHOICE)
+                    sum_of(one.steps_beside(is_spread), steps, STEPS_OF_A_CHOICE)
                 }
             }
             Outline::Repeated(quantifier, body) => {
                 body.repeated_steps(*quantifier, body.steps(is_spread), is_spread)
             }
             Outline::Behind(_, body) => {
-                together(
+                sum_of(
                     mark_steps(is_spread),
                     body.steps(is_spread),
                     STEPS_OF_A_LOOK,
@@ -129,9 +130,9 @@ impl Outline {
             }
             Outline::Ahead(_, body) => {
                 if is_spread {
-                    together(mark_steps(true), body.steps(true), STEPS_OF_A_LOOK)
+                    sum_of(mark_steps(true), body.steps(true), STEPS_OF_A_LOOK)
                 } else {
-                    together(0, body.glance_steps(), STEPS_OF_A_LOOK)
+                    sum_of(0, body.glance_steps(), STEPS_OF_A_LOOK)
                 }
             }
         }
@@ -140,20 +141,20 @@ impl Outline {
     // Of what a lookahead looks for.
     #[cycle(glance_steps)]
     fn glance_steps(&self) -> u32
-        ensures { result ≡ capped (steps_of (glance (outlined self.now))) }
+        ensures { result ≡ cap_steps (steps_of (glance (outline_pattern self.now))) }
     {
         match self {
             Outline::Class { sets, .. } => class_steps(sets),
             Outline::Start | Outline::End | Outline::Boundary | Outline::NoBoundary => 1,
             Outline::Then(_, second) => second.glance_steps(),
             Outline::Or(one, other) => {
-                together(one.glance_steps(), other.glance_steps(), STEPS_OF_A_CHOICE)
+                sum_of(one.glance_steps(), other.glance_steps(), STEPS_OF_A_CHOICE)
             }
             Outline::Repeated(quantifier, body) => match quantifier {
-                Quantifier::ZeroOrOne => together(0, body.glance_steps(), STEPS_OF_A_CHOICE),
+                Quantifier::ZeroOrOne => sum_of(0, body.glance_steps(), STEPS_OF_A_CHOICE),
                 _ => 0,
             },
-            Outline::Ahead(_, body) => together(0, body.glance_steps(), STEPS_OF_A_LOOK),
+            Outline::Ahead(_, body) => sum_of(0, body.glance_steps(), STEPS_OF_A_LOOK),
             Outline::Empty | Outline::Behind(..) => 0,
         }
     }
@@ -162,18 +163,18 @@ impl Outline {
     #[cycle(steps)]
     fn steps_beside(&self, is_spread: bool) -> u32
         ensures { result
-            ≡ capped (steps_of (alternatives (spread_if is_spread (outlined self.now)))) }
+            ≡ cap_steps (steps_of (alternatives (spread_if is_spread (outline_pattern self.now)))) }
     {
         match self {
             Outline::Or(one, other) => {
-                together(
+                sum_of(
                     one.steps_beside(is_spread),
                     other.steps(is_spread),
                     STEPS_BETWEEN,
                 )
             }
             Outline::Repeated(quantifier, body) => match quantifier {
-                Quantifier::ZeroOrOne => together(0, body.steps(is_spread), STEPS_BETWEEN),
+                Quantifier::ZeroOrOne => sum_of(0, body.steps(is_spread), STEPS_BETWEEN),
                 _ => self.steps(is_spread),
             },
             Outline::Empty
@@ -190,46 +191,49 @@ impl Outline {
 
     // Where it may be missing, by its own steps.
     fn option_steps(&self, own: u32, is_spread: bool) -> u32
-        requires { own ≡ capped (steps (spread_if is_spread (outlined self.now))) }
-        ensures { result ≡ capped (steps (alt empty (spread_if is_spread (outlined self.now)))) }
+        requires { own ≡ cap_steps (steps (spread_if is_spread (outline_pattern self.now))) }
+        ensures { result
+            ≡ cap_steps (steps (alt empty (spread_if is_spread (outline_pattern self.now)))) }
     {
         match self.class() {
             Some(_) => own,
-            None => together(0, own, STEPS_OF_A_CHOICE),
+            None => sum_of(0, own, STEPS_OF_A_CHOICE),
         }
     }
 
     // Where it is repeated without end, by its own steps.
     fn loop_steps(&self, own: u32, is_spread: bool) -> u32
-        requires { own ≡ capped (steps (spread_if is_spread (outlined self.now))) }
-        ensures star { result ≡ capped (steps (star (spread_if is_spread (outlined self.now)))) }
-        ensures plus { result ≡ capped (steps (plus (spread_if is_spread (outlined self.now)))) }
+        requires { own ≡ cap_steps (steps (spread_if is_spread (outline_pattern self.now))) }
+        ensures star { result
+            ≡ cap_steps (steps (star (spread_if is_spread (outline_pattern self.now)))) }
+        ensures plus { result
+            ≡ cap_steps (steps (plus (spread_if is_spread (outline_pattern self.now)))) }
     {
         match self.class() {
             Some(_) => own,
-            None => together(0, own, STEPS_OF_A_LOOP),
+            None => sum_of(0, own, STEPS_OF_A_LOOP),
         }
     }
 
     fn repeated_steps(&self, quantifier: Quantifier, own: u32, is_spread: bool) -> u32
-        requires { own ≡ capped (steps (spread_if is_spread (outlined self.now))) }
+        requires { own ≡ cap_steps (steps (spread_if is_spread (outline_pattern self.now))) }
         ensures { result
-            ≡ capped (steps (quantified_pattern (quantifier_of quantifier)
-            (spread_if is_spread (outlined self.now)))) }
+            ≡ cap_steps (steps (quantified_pattern (quantifier_of quantifier)
+            (spread_if is_spread (outline_pattern self.now)))) }
     {
         match quantifier {
             Quantifier::ZeroOrMore | Quantifier::OneOrMore => self.loop_steps(own, is_spread),
             Quantifier::ZeroOrOne => self.option_steps(own, is_spread),
             Quantifier::Exactly(count) => times(count, own),
             Quantifier::AtLeast(count) => {
-                together(times(count, own), self.loop_steps(own, is_spread), 0)
+                sum_of(times(count, own), self.loop_steps(own, is_spread), 0)
             }
             Quantifier::FromTo(least, most) => {
                 let rest = times(
                     most.saturating_sub(least),
                     self.option_steps(own, is_spread),
                 );
-                together(times(least, own), rest, 0)
+                sum_of(times(least, own), rest, 0)
             }
         }
     }
@@ -244,7 +248,7 @@ fn mark_steps(is_spread: bool) -> u32
 
 // Of so many copies.
 fn times(count: u32, steps: u32) -> u32
-    ensures { result ≡ capped (count * steps) }
+    ensures { result ≡ cap_steps (count * steps) }
 {
     cap(u64::from(count) * u64::from(steps))
 }

@@ -1,7 +1,7 @@
 //! A stack of answers, in an array of its own, so that it takes no memory.
 
 ghost use Rattle.std.specs.Prelude.{◌≡◌, ◌≤◌, ◌+◌, [], ◌∷◌, length};
-ghost use Rattle.strkw_ecma.specs.machine.Walk.{top, below as spec_below};
+ghost use Rattle.strkw_ecma.specs.machine.Walk.{first_or_false, below as spec_below};
 
 // Two for each instruction that a program may have.
 const ROOM: usize = 5200;
@@ -46,7 +46,7 @@ impl Stack {
 
     /// Takes the last answer off: `false` where there is none.
     pub(crate) fn pop(&mut self) -> bool
-        ensures last { result ≡ top (answers_of self.old) }
+        ensures last { result ≡ first_or_false (answers_of self.old) }
         ensures popped { answers_of self.new ≡ spec_below (answers_of self.old) }
         ensures room { self.old.first ≤ self.new.first }
     {

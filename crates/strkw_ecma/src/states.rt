@@ -2,7 +2,7 @@
 
 ghost use Rattle.std.specs.Prelude.{◌≡◌, ◌*◌, ◌+◌, ◌≤◌, ◌<◌};
 ghost use Rattle.std.specs.Prelude.{ℕ, length, true, false, IsTrue, IfOk, IfSome, None, Some, get_or, slice_get};
-ghost use Rattle.strkw_ecma.specs.machine.Marks.{classes as spec_classes, leaves, step as spec_step, marked};
+ghost use Rattle.strkw_ecma.specs.machine.Marks.{classes as spec_classes, leaves, step as spec_step, mark_classes};
 ghost use Rattle.strkw_ecma.specs.Meaning.{is_word as spec_is_word, is_edge as spec_is_edge};
 ghost use Rattle.strkw_ecma.specs.machine.Machine.{pattern_of, AreReadsOf};
 ghost use Rattle.strkw_ecma.specs.machine.Columns.{has_boundary as spec_has_boundary};
@@ -72,7 +72,7 @@ impl State {
         ensures length { length at_hand.new ≡ length at_hand.old }
         ensures found { IfSome result (λ is_found. is_found
             ≡ leaves self.now.last next (marks_in (pattern_of program.now) self.now) true) }
-        ensures marks { IfSome result (λ is_found. marked at_hand.new (pattern_of program.now)
+        ensures marks { IfSome result (λ is_found. mark_classes at_hand.new (pattern_of program.now)
             ≡ spec_step self.now.last next (marks_in (pattern_of program.now) self.now) true) }
     {
         if self.marks.len() != at_hand.len() {

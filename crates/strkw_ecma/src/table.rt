@@ -4,7 +4,7 @@ ghost use Rattle.std.specs.Prelude.{◌≡◌, ◌+◌, ◌<◌, ◌==◌, true,
 ghost use Rattle.std.specs.Str.{chars};
 ghost use Rattle.strkw_ecma.specs.Mirror.{along};
 ghost use Rattle.strkw_ecma.specs.machine.Columns.{column_of};
-ghost use Rattle.strkw_ecma.specs.machine.Table.{walk, found, entry_at, row_after, AreInside};
+ghost use Rattle.strkw_ecma.specs.machine.Table.{walk, found_row, entry_at, row_after, AreInside};
 
 use crate::along::Along;
 use crate::columns::Columns;
@@ -54,13 +54,13 @@ impl Rows<'_> {
     // The row behind a character of this column; none where the pattern is found. The entries are taken from the column
     // on first, since the row is known last.
     #[inline(always)]
-    fn behind(self, row: usize, column: usize) -> Option<usize>
+    fn next_row(self, row: usize, column: usize) -> Option<usize>
         requires all { AreInside self.end self.entries.now }
         requires row { row + self.end < length self.entries.now }
         requires column { column < self.end }
-        ensures leads { MatchOption result (entry_at self.entry.entries.now row column ≡ found)
+        ensures leads { MatchOption result (entry_at self.entry.entries.now row column ≡ found_row)
             (λ to. (to ≡ row_after self.entry.end row (entry_at self.entry.entries.now row column))
-            × ((entry_at self.entry.entries.now row column == found) ≡ false)) }
+            × ((entry_at self.entry.entries.now row column == found_row) ≡ false)) }
         ensures inside { IfSome result (λ to. to + self.entry.end < length self.entry.entries.now) }
     {
         let entry = usize::from(self.entries[column..][row]);
@@ -77,7 +77,7 @@ impl Rows<'_> {
     #[inline(always)]
     fn is_found_at_end(self, row: usize) -> bool
         requires { row + self.end < length self.entries.now }
-        ensures { result ≡ (entry_at self.entry.entries.now row self.entry.end == found) }
+        ensures { result ≡ (entry_at self.entry.entries.now row self.entry.end == found_row) }
     {
         usize::from(self.entries[row + self.end]) == FOUND
     }
@@ -111,7 +111,7 @@ impl Table {
             let Some(column) = columns.get(usize::from(*byte)) else {
                 return self.is_found_behind(row, &text[place..]);
             };
-            let Some(next) = rows.behind(row, usize::from(*column)) else {
+            let Some(next) = rows.next_row(row, usize::from(*column)) else {
                 return true;
             };
             row = next;
@@ -133,7 +133,7 @@ impl Table {
         let mut place = 0;
         'characters: while place < bytes.len() {
             let (column, width) = self.columns.column_at(bytes, place);
-            let Some(next) = rows.behind(row, column) else {
+            let Some(next) = rows.next_row(row, column) else {
                 return true;
             };
             row = next;
@@ -166,7 +166,7 @@ impl Table {
         let mut row = 0;
         let mut left = Along::new(text, true);
         'characters: while let Some(c) = left.next() {
-            let Some(next) = rows.behind(row, self.columns.column(c)) else {
+            let Some(next) = rows.next_row(row, self.columns.column(c)) else {
                 return true;
             };
             row = next;

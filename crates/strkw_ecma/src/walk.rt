@@ -3,7 +3,7 @@
 ghost use Rattle.std.specs.Prelude.{◌≡◌, ◌≤◌, ◌+◌, [], true, false, ℕ, Bool, List, Option, ◌&&◌, ◌||◌};
 ghost use Rattle.strkw_ecma.specs.Program.{read as spec_read, peek as spec_peek};
 ghost use Rattle.strkw_ecma.specs.machine.Marks.{reads as spec_reads};
-ghost use Rattle.strkw_ecma.specs.machine.Shape.{turned};
+ghost use Rattle.strkw_ecma.specs.machine.Shape.{turn_instruction};
 ghost use Rattle.strkw_ecma.specs.machine.Machine.{asked_of, following_of, answers_of};
 ghost use Rattle.strkw_ecma.specs.machine.Walk.{back_over as spec_back_over, over as spec_over};
 ghost use Rattle.strkw_ecma.specs.declared.tree.CharSet.{CharSet};
@@ -35,7 +35,7 @@ impl Ahead {
     }
 
     /// Back over a class.
-    pub(crate) fn back_over_class(self, optional: bool, mark: bool) -> Ahead
+    pub(crate) fn step_back_over_class(self, optional: bool, mark: bool) -> Ahead
         ensures { (last next : Option ℕ) (again negated : Bool) (sets : List CharSet) (walk : Walk)
             → asked_of result walk
             ≡ spec_back_over last next (spec_read again optional negated sets) mark
@@ -48,7 +48,7 @@ impl Ahead {
     }
 
     /// Back over a class that the next character is asked for, and not read.
-    pub(crate) fn back_over_peek(self, reads: bool) -> Ahead
+    pub(crate) fn step_back_over_peek(self, reads: bool) -> Ahead
         ensures { (last next : Option ℕ) (negated : Bool) (sets : List CharSet) (mark : Bool)
             (walk : Walk) → reads ≡ spec_reads next negated sets
             → asked_of result walk
@@ -94,7 +94,7 @@ impl Walk {
     }
 
     /// Back over an instruction that reads no character.
-    pub(crate) fn back_over(
+    pub(crate) fn step_back(
         &mut self,
         turn: Turn,
         ahead: Ahead,
@@ -104,7 +104,7 @@ impl Walk {
         requires around { 2 ≤ self.old.around.first }
         requires again { 1 ≤ self.old.again.first }
         ensures asked { (mark : Bool) → asked_of result self.new
-            ≡ spec_back_over last next (turned turn) mark (asked_of ahead self.old) }
+            ≡ spec_back_over last next (turn_instruction turn) mark (asked_of ahead self.old) }
         ensures around { self.old.around.first ≤ self.new.around.first + 2 }
         ensures again { self.old.again.first ≤ self.new.again.first + 1 }
     {
@@ -192,7 +192,7 @@ impl Walk {
 
     /// Forwards over an instruction that reads no character, to which a way has come or not: whether one has come to
     /// the next.
-    pub(crate) fn over(
+    pub(crate) fn step_over(
         &mut self,
         turn: Turn,
         enters: bool,
@@ -201,7 +201,7 @@ impl Walk {
     ) -> bool
         requires around { 2 ≤ self.old.around.first }
         ensures following { (mark : Bool) → following_of result self.new
-            ≡ spec_over last next (turned turn) mark (following_of enters self.old) }
+            ≡ spec_over last next (turn_instruction turn) mark (following_of enters self.old) }
         ensures around { self.old.around.first ≤ self.new.around.first + 2 }
     {
         match turn {

@@ -2,9 +2,9 @@
 
 ghost use Rattle.std.specs.Prelude.{◌≡◌, ◌≤◌, ◌+◌, ◌++◌, length, IfOk};
 ghost use Rattle.strkw_ecma.specs.Tree.{empty, alt, star, plus};
-ghost use Rattle.strkw_ecma.specs.Patterns.{quantified_pattern, repeated};
+ghost use Rattle.strkw_ecma.specs.Patterns.{quantified_pattern, repetition};
 ghost use Rattle.strkw_ecma.specs.Program.{glance, program, alternatives};
-ghost use Rattle.strkw_ecma.specs.machine.Shape.{outlined, quantifier_of};
+ghost use Rattle.strkw_ecma.specs.machine.Shape.{outline_pattern, quantifier_of};
 ghost use Rattle.strkw_ecma.specs.machine.Machine.{Writes};
 
 use crate::code::{Code, Turn};
@@ -15,7 +15,7 @@ impl Outline {
     /// Writes its program behind what is written. What is repeated is written once, and then copied.
     #[cycle(write)]
     pub(crate) fn write(&self, alloc: Global, code: &mut Code) -> Result<(), AllocError>
-        ensures { IfOk result (λ _. Writes code.old code.new (program (outlined self.now))) }
+        ensures { IfOk result (λ _. Writes code.old code.new (program (outline_pattern self.now))) }
     {
         match self {
             Outline::Empty => Ok(()),
@@ -56,7 +56,7 @@ impl Outline {
     // What a lookahead looks for.
     #[cycle(write_glance)]
     fn write_glance(&self, alloc: Global, code: &mut Code) -> Result<(), AllocError>
-        ensures { IfOk result (λ _. Writes code.old code.new (glance (outlined self.now))) }
+        ensures { IfOk result (λ _. Writes code.old code.new (glance (outline_pattern self.now))) }
     {
         match self {
             Outline::Class { negated, sets } => code.peek(alloc, *negated, sets),
@@ -93,7 +93,8 @@ impl Outline {
     // The same, among alternatives.
     #[cycle(write)]
     fn write_beside(&self, alloc: Global, code: &mut Code) -> Result<(), AllocError>
-        ensures { IfOk result (λ _. Writes code.old code.new (alternatives (outlined self.now))) }
+        ensures { IfOk result
+            (λ _. Writes code.old code.new (alternatives (outline_pattern self.now))) }
     {
         match self {
             Outline::Or(one, other) => {
@@ -124,7 +125,7 @@ impl Outline {
         quantifier: Quantifier,
     ) -> Result<(), AllocError>
         ensures { IfOk result (λ _. Writes code.old code.new
-            (program (quantified_pattern (quantifier_of quantifier) (outlined self.now)))) }
+            (program (quantified_pattern (quantifier_of quantifier) (outline_pattern self.now)))) }
     {
         match quantifier {
             Quantifier::ZeroOrMore => self.write_star(alloc, code),
@@ -144,7 +145,8 @@ impl Outline {
 
     #[cycle(write)]
     fn write_star(&self, alloc: Global, code: &mut Code) -> Result<(), AllocError>
-        ensures { IfOk result (λ _. Writes code.old code.new (program (star (outlined self.now)))) }
+        ensures { IfOk result
+            (λ _. Writes code.old code.new (program (star (outline_pattern self.now)))) }
     {
         if let Some((negated, sets)) = self.class() {
             return code.read(alloc, negated, sets, true, true);
@@ -156,7 +158,8 @@ impl Outline {
 
     #[cycle(write)]
     fn write_plus(&self, alloc: Global, code: &mut Code) -> Result<(), AllocError>
-        ensures { IfOk result (λ _. Writes code.old code.new (program (plus (outlined self.now)))) }
+        ensures { IfOk result
+            (λ _. Writes code.old code.new (program (plus (outline_pattern self.now)))) }
     {
         if let Some((negated, sets)) = self.class() {
             return code.read(alloc, negated, sets, true, false);
@@ -170,7 +173,7 @@ impl Outline {
     #[cycle(write)]
     fn write_option(&self, alloc: Global, code: &mut Code) -> Result<(), AllocError>
         ensures { IfOk result (λ _. Writes code.old code.new (program (alt empty
-            (outlined self.now)))) }
+            (outline_pattern self.now)))) }
     {
         if let Some((negated, sets)) = self.class() {
             return code.read(alloc, negated, sets, false, true);
@@ -184,8 +187,8 @@ impl Outline {
     // So many copies, one behind the other.
     #[cycle(write)]
     fn write_copies(&self, alloc: Global, code: &mut Code, count: u32) -> Result<(), AllocError>
-        ensures { IfOk result (λ _. Writes code.old code.new (program (repeated count
-            (outlined self.now)))) }
+        ensures { IfOk result (λ _. Writes code.old code.new (program (repetition count
+            (outline_pattern self.now)))) }
     {
         if count == 0 {
             return Ok(());
@@ -199,7 +202,7 @@ impl Outline {
     #[cycle(write)]
     fn write_options(&self, alloc: Global, code: &mut Code, count: u32) -> Result<(), AllocError>
         ensures { IfOk result (λ _. Writes code.old code.new
-            (program (repeated count (alt empty (outlined self.now))))) }
+            (program (repetition count (alt empty (outline_pattern self.now))))) }
     {
         if count == 0 {
             return Ok(());

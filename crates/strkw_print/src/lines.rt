@@ -82,8 +82,8 @@ fn push_note_line(
     out: &mut Vec<u8>,
 ) -> Result<(), AllocError>
     requires { ArePrintable (listed_remark (noted_remark origin.now.schema noted)) }
-    ensures ok { OnOk result (out.new.items
-        ≡ out.old.items ++ note_lines (listed_remark (noted_remark origin.now.schema noted.entry))) }
+    ensures ok { OnOk result (out.new.items ≡ out.old.items
+        ++ note_lines (listed_remark (noted_remark origin.now.schema noted.entry))) }
     ensures err { OnErr result ((more : List ℕ) × (out.new.items ≡ out.old.items ++ more)) }
 {
     let Some(noted) = noted else {

@@ -2,9 +2,9 @@
 use Rattle.std.specs.Prelude.{◌≡◌, ℕ, ◌≤◌, Bool, true, false, not, List, [], ◌∷◌, ◌++◌, slice_get}
 use Rattle.std.specs.Prelude.{Option, Some, None}
 use Rattle.strkw_ecma.specs.Tree.{Pattern, cat, lookbehind, lookahead}
-use Rattle.strkw_ecma.specs.Mirror.{mirror, facing}
+use Rattle.strkw_ecma.specs.Mirror.{mirror, mirror_if}
 use Rattle.strkw_ecma.specs.Size.{steps, spread, max_steps}
-use Rattle.strkw_ecma.specs.machine.Marks.{unmarked}
+use Rattle.strkw_ecma.specs.machine.Marks.{is_unmarked}
 use Rattle.strkw_ecma.specs.machine.Passes.{Alike}
 use Rattle.strkw_ecma.specs.machine.Seeking.{Seeking}
 use Rattle.strkw_ecma.specs.machine.Slots.{aside, spots}
@@ -32,7 +32,7 @@ AreToldAs fs b (t ∷ ts) (s ∷ ss) = IsToldAs fs b t s × AreToldAs fs b ts ss
 -- it is the quest with its lookaheads put aside, each of which is one of some quests
 pub record IsAside (fs : List Quest) (x : Seeking) (f : Quest) : Type 0 where
   pub backward : x.backward ≡ f.backward
-  pub bare : unmarked f.pattern ≡ true
+  pub bare : is_unmarked f.pattern ≡ true
   pub slotted : x.pattern ≡ aside f.pattern
   pub told : AreToldAs fs f.backward x.told (spots f.pattern)
 
@@ -49,7 +49,7 @@ IsSmall p = steps (spread p) ≤ max_steps
 
 -- and bears no mark, so that its lookaheads may be put aside
 pub record MayBePut (p : Pattern) : Type 0 where
-  pub bare : unmarked p ≡ true
+  pub bare : is_unmarked p ≡ true
   pub small : IsSmall p
 
 abbrev pub AreSmall : List Quest → Type 0
@@ -73,18 +73,18 @@ pub record Puts (b : Bool) (sought o : Pattern) (fs : List Quest) (xs : List See
 -- of a pattern, or of its mirror
 abbrev pub PutsAside : Bool → Pattern → Pattern → List Quest → List Seeking
     → List (Option ℕ) → List (Option ℕ) → Type 0
-PutsAside b p = Puts b (facing b p)
+PutsAside b p = Puts b (mirror_if b p)
 
 -- of two, one behind the other, or of their mirrors
 abbrev pub PutsBoth : Bool → Pattern → Pattern → Pattern → List Quest → List Seeking
     → List (Option ℕ) → List (Option ℕ) → Type 0
-PutsBoth b p q = Puts b (cat (facing b p) (facing b q))
+PutsBoth b p q = Puts b (cat (mirror_if b p) (mirror_if b q))
 
 -- of a lookahead or a lookbehind for a pattern, or for its mirror
 abbrev pub PutsLook : Bool → Bool → Bool → Pattern → Pattern → List Quest → List Seeking
     → List (Option ℕ) → List (Option ℕ) → Type 0
-PutsLook true n b p = Puts b (lookahead n (facing b p))
-PutsLook false n b p = Puts b (lookbehind n (facing b p))
+PutsLook true n b p = Puts b (lookahead n (mirror_if b p))
+PutsLook false n b p = Puts b (lookbehind n (mirror_if b p))
 
 -- a pattern, or its mirror, is set aside
 pub record SetsAside (b : Bool) (p : Pattern) (x : Seeking) (fs : List Quest) (xs : List Seeking)
@@ -93,7 +93,7 @@ pub record SetsAside (b : Bool) (p : Pattern) (x : Seeking) (fs : List Quest) (x
   pub small : AreSmall added
   pub asides : AreAsides [] xs (fs ++ added)
   pub made : Pattern
-  pub alike : Alike made (facing b p)
+  pub alike : Alike made (mirror_if b p)
   pub made_small : IsSmall made
   pub is : IsAside (fs ++ added) x record { backward = b; pattern = made }
 
@@ -104,5 +104,5 @@ pub record TellsAside (b : Bool) (p : Pattern) (number : ℕ) (fs : List Quest) 
   pub small : AreSmall added
   pub asides : AreAsides [] xs (fs ++ added)
   pub made : Pattern
-  pub alike : Alike made (facing b p)
+  pub alike : Alike made (mirror_if b p)
   pub is : slice_get (fs ++ added) number ≡ Some record { backward = b; pattern = made }

@@ -39,29 +39,29 @@ abbrev pub coded_if : {M : Maker} → Bool → Coded M → Coded M
 coded_if false k = fails
 coded_if true k = k
 
-abbrev pub made : {M : Maker} → M.Code → Coded M
-made {M} d = coded_if (is_scalar (M.code_value d)) (makes d)
+abbrev pub make : {M : Maker} → M.Code → Coded M
+make {M} d = coded_if (is_scalar (M.code_value d)) (makes d)
 
 abbrev pub with_lead : {M : Maker} → M.Hex → Bool → Coded M
-with_lead {M} ds false = made (M.unit_code ds)
+with_lead {M} ds false = make (M.unit_code ds)
 with_lead ds true = goes (lead_read ds)
 
-abbrev pub all_read : {M : Maker} → Width M → M.Hex → Coded M
-all_read {M} byte_width ds = made (M.byte_code ds)
-all_read {M} unit_width ds = with_lead ds (is_lead (M.hex_value ds))
-all_read {M} (trail_width ds) es =
-    coded_if (is_trail (M.hex_value es)) (made (M.pair_code ds es))
+abbrev pub read_all : {M : Maker} → Width M → M.Hex → Coded M
+read_all {M} byte_width ds = make (M.byte_code ds)
+read_all {M} unit_width ds = with_lead ds (is_lead (M.hex_value ds))
+read_all {M} (trail_width ds) es =
+    coded_if (is_trail (M.hex_value es)) (make (M.pair_code ds es))
 
-abbrev pub digit_read : {M : Maker} → Width M → Wanted → M.Hex → Coded M
-digit_read w one_more ds = all_read w ds
-digit_read w two_more ds = goes (digits_of w one_more ds)
-digit_read w three_more ds = goes (digits_of w two_more ds)
-digit_read w four_more ds = goes (digits_of w three_more ds)
+abbrev pub read_digit : {M : Maker} → Width M → Wanted → M.Hex → Coded M
+read_digit w one_more ds = read_all w ds
+read_digit w two_more ds = goes (digits_of w one_more ds)
+read_digit w three_more ds = goes (digits_of w two_more ds)
+read_digit w four_more ds = goes (digits_of w three_more ds)
 
 -- behind one more digit, where there is one
 abbrev pub digit_or_none : {M : Maker} → Width M → Wanted → Option M.Hex → Coded M
 digit_or_none w n None = fails
-digit_or_none w n (Some ds) = digit_read w n ds
+digit_or_none w n (Some ds) = read_digit w n ds
 
 abbrev pub on_digit : {M : Maker} → Width M → Wanted → M.Hex → ℕ → Coded M
 on_digit {M} w n ds c = digit_or_none w n (M.with_hex_digit ds c)
@@ -77,14 +77,14 @@ point_digit (Some ds) = goes (point_opened (Some ds))
 
 abbrev pub point_end : {M : Maker} → Option M.Hex → Coded M
 point_end None = fails
-point_end {M} (Some ds) = made (M.point_code ds)
+point_end {M} (Some ds) = make (M.point_code ds)
 
 abbrev pub on_point : {M : Maker} → Option M.Hex → ℕ → Bool → Coded M
 on_point {M} o c false = point_digit (M.with_hex_digit (value_or M.no_hex o) c)
 on_point o c true = point_end o
 
 abbrev pub coding_next : {M : Maker} → Coding M → ℕ → Coded M
-coding_next {M} letter_awaited c = coded_if (is_ascii_alphabetic c) (made (M.letter_code c))
+coding_next {M} letter_awaited c = coded_if (is_ascii_alphabetic c) (make (M.letter_code c))
 coding_next unit_opened c = on_unit c (c == byte "{")
 coding_next (digits_of w n ds) c = on_digit w n ds c
 coding_next (lead_read ds) c = coded_if (c == byte "\\") (goes (lead_escaped ds))

@@ -5,14 +5,15 @@ use Rattle.std.specs.Prelude.{◌++◌, length, Option, Some, None, if◌then◌
 use Rattle.strkw_ecma.specs.Tree.{Pattern}
 use Rattle.strkw_ecma.specs.Front.{Part}
 use Rattle.strkw_ecma.specs.Glances.{are_told}
-use Rattle.strkw_ecma.specs.Mirror.{along, sought, sought_in}
-use Rattle.strkw_ecma.specs.machine.Marks.{marks_of, marked}
+use Rattle.strkw_ecma.specs.Mirror.{along, target, sought_in}
+use Rattle.strkw_ecma.specs.machine.Marks.{marks_of, mark_classes}
 use Rattle.strkw_ecma.specs.machine.Search.{search_from, found_in}
-use Rattle.strkw_ecma.specs.machine.Seeking.{Seeking, said}
+use Rattle.strkw_ecma.specs.machine.Seeking.{Seeking, row_answer}
 use Rattle.strkw_ecma.specs.machine.Slots.{told_by}
 use Rattle.strkw_ecma.specs.Program.{Instruction, program}
 use Rattle.strkw_ecma.specs.Size.{instruction_steps}
-use Rattle.strkw_ecma.specs.machine.Walk.{top, Asked, Walked, Following, begun, back_over, over}
+use Rattle.strkw_ecma.specs.machine.Walk.{first_or_false, Asked, Walked, Following, start_following}
+use Rattle.strkw_ecma.specs.machine.Walk.{back_over, over}
 use Rattle.strkw_ecma.specs.machine.Walk.{left_by, marks_behind}
 
 -- what some steps come to, and how many they are
@@ -34,7 +35,7 @@ module _ (b a : Option ℕ) where
   asking (i ∷ is) ms =
       let rest = asking is (marks_behind b a i ms) in
       record {
-        result = back_over b a i (top ms) rest.result;
+        result = back_over b a i (first_or_false ms) rest.result;
         steps = instruction_steps i + rest.steps;
       }
 
@@ -42,9 +43,9 @@ module _ (b a : Option ℕ) where
   abbrev pub following : List Instruction → Following → List Bool → Counted Walked
   following [] s ms = record { result = record { leaves = s.enters; marks = ms }; steps = 0 }
   following (i ∷ is) s ms =
-      let rest = following is (over b a i (top ms) s) (marks_behind b a i ms) in
+      let rest = following is (over b a i (first_or_false ms) s) (marks_behind b a i ms) in
       record {
-        result = left_by b a i (top ms) s rest.result;
+        result = left_by b a i (first_or_false ms) s rest.result;
         steps = instruction_steps i + rest.steps;
       }
 
@@ -52,49 +53,49 @@ module _ (b a : Option ℕ) where
   abbrev pub walking : List Instruction → List Bool → Counted Walked
   walking is ms =
       let back = asking is ms in
-      after back.steps (following is (begun back.result.again) ms)
+      after back.steps (following is (start_following back.result.again) ms)
 
 -- whether a program with these marks is found in the rest of a text, behind the character `last`
-abbrev pub searching : List Instruction → List Bool → Option ℕ → List ℕ → Counted Bool
-searching is ms last [] =
+abbrev pub counted_search : List Instruction → List Bool → Option ℕ → List ℕ → Counted Bool
+counted_search is ms last [] =
     let one = walking last None is ms in
     record { result = one.result.leaves; steps = one.steps }
-searching is ms last (c ∷ cs) =
+counted_search is ms last (c ∷ cs) =
     let one = walking last (Some c) is ms in
     if one.result.leaves then record { result = true; steps = one.steps }
-    else after one.steps (searching is one.result.marks (Some c) cs)
+    else after one.steps (counted_search is one.result.marks (Some c) cs)
 
 -- The search by the program of a pattern comes to what the definition does, in at most so many
 -- steps for each character and the end of the text.
 pub record IsSearchedWithin (most : ℕ) (p : Pattern) (text : List ℕ) : Type 0 where
-  pub answer : (searching (program p) (marks_of p) None text).result ≡ search_from p None text
-  pub steps : (searching (program p) (marks_of p) None text).steps ≤ most * (length text + 1)
+  pub answer : (counted_search (program p) (marks_of p) None text).result ≡ search_from p None text
+  pub steps : (counted_search (program p) (marks_of p) None text).steps ≤ most * (length text + 1)
 
 -- The search whose marks are told by rows, with its steps counted: at each place, whether the
 -- pattern ends there.
 module _ (rows : List (List Bool)) (ts : List (Option ℕ)) where
   abbrev pub ending : Pattern → Option ℕ → List ℕ → Counted (List Bool)
   ending p last [] =
-      let q = told_by (said rows 0) ts p in
+      let q = told_by (row_answer rows 0) ts p in
       let one = walking last None (program q) (marks_of q) in
       record { result = one.result.leaves ∷ []; steps = one.steps }
   ending p last (c ∷ cs) =
-      let q = told_by (said rows (suc (length cs))) ts p in
+      let q = told_by (row_answer rows (suc (length cs))) ts p in
       let one = walking last (Some c) (program q) (marks_of q) in
-      let rest = ending (marked one.result.marks q) (Some c) cs in
+      let rest = ending (mark_classes one.result.marks q) (Some c) cs in
       record { result = one.result.leaves ∷ rest.result; steps = one.steps + rest.steps }
 
 -- the rows of some, each told by those before it, behind others
-abbrev pub rowing : List (List Bool) → List ℕ → List Seeking → Counted (List (List Bool))
-rowing rows text [] = record { result = rows; steps = 0 }
-rowing rows text (x ∷ xs) =
+abbrev pub fill_rows : List (List Bool) → List ℕ → List Seeking → Counted (List (List Bool))
+fill_rows rows text [] = record { result = rows; steps = 0 }
+fill_rows rows text (x ∷ xs) =
     let row = ending rows x.told x.pattern None (along x.backward text) in
-    after row.steps (rowing (rows ++ (row.result ∷ [])) text xs)
+    after row.steps (fill_rows (rows ++ (row.result ∷ [])) text xs)
 
 -- and of one more, told by them
 abbrev pub seeking_by : List Seeking → Seeking → List ℕ → Counted (List Bool)
 seeking_by xs x text =
-    let rows = rowing [] text xs in
+    let rows = fill_rows [] text xs in
     after rows.steps (ending rows.result x.told x.pattern None (along x.backward text))
 
 -- one of them holds
@@ -119,5 +120,5 @@ IsWithin false = IsSoughtWithin
 abbrev pub AreSearchedWithin : ℕ → List Part → List ℕ → Type 0
 AreSearchedWithin most [] text = Unit {0}
 AreSearchedWithin most (x ∷ xs) text = (one : ℕ) × (others : ℕ) × (one + others ≤ most)
-    × IsWithin (are_told (sought x.pattern)) one (sought x.pattern) (sought_in x.pattern text)
+    × IsWithin (are_told (target x.pattern)) one (target x.pattern) (sought_in x.pattern text)
     × AreSearchedWithin others xs text

@@ -6,7 +6,7 @@ use Rattle.strkw_ecma.specs.Tree.{differ}
 use Rattle.strkw_ecma.specs.Mirror.{along}
 use Rattle.strkw_ecma.specs.machine.Machine.{pattern_of}
 use Rattle.strkw_ecma.specs.machine.Search.{search_from}
-use Rattle.strkw_ecma.specs.machine.Seekers.{seeking, seekings}
+use Rattle.strkw_ecma.specs.machine.Seekers.{seeking_of, seekings}
 use Rattle.strkw_ecma.specs.machine.Seeking.{is_sought}
 use Rattle.strkw_ecma.specs.declared.engine.EcmaMatcher.{EcmaMatcher}
 use Rattle.strkw_ecma.specs.declared.finder.PartFinder.{PartFinder}
@@ -15,7 +15,7 @@ use Rattle.strkw_ecma.specs.declared.finder.Search.TheVariants.{Plain, Told}
 
 abbrev pub is_found_by : Search → List ℕ → Bool
 is_found_by (Plain backward f) text = search_from (pattern_of f.program) None (along backward text)
-is_found_by (Told asides last) text = is_sought (seekings asides.items) (seeking last) text
+is_found_by (Told asides last) text = is_sought (seekings asides.items) (seeking_of last) text
 
 -- whether each is found, or is not, as it is to be
 abbrev pub are_found_by : List PartFinder → List ℕ → Bool

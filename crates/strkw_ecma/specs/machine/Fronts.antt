@@ -2,12 +2,12 @@
 use Rattle.std.specs.Prelude.{◌≡◌, List, [], ◌∷◌, ◌++◌}
 use Rattle.strkw_ecma.specs.Tree.{Pattern}
 use Rattle.strkw_ecma.specs.Front.{Part, lead, fronts, rest}
-use Rattle.strkw_ecma.specs.machine.Shape.{outlined}
+use Rattle.strkw_ecma.specs.machine.Shape.{outline_pattern}
 use Rattle.strkw_ecma.specs.declared.front.Cut.{Cut}
 use Rattle.strkw_ecma.specs.declared.front.Front.{Front}
 
 abbrev pub part_view : Front → Part
-part_view f = record { negated = f.negated; pattern = outlined f.pattern }
+part_view f = record { negated = f.negated; pattern = outline_pattern f.pattern }
 
 abbrev pub parts_view : List Front → List Part
 parts_view [] = []
@@ -16,5 +16,5 @@ parts_view (f ∷ fs) = part_view f ∷ parts_view fs
 -- these are cut off a pattern, and appended to others
 pub record Cuts (c : Cut) (p : Pattern) (old new : List Front) : Type 0 where
   pub lead : c.lead ≡ lead p
-  pub rest : outlined c.rest ≡ rest p
+  pub rest : outline_pattern c.rest ≡ rest p
   pub fronts : parts_view new ≡ parts_view old ++ fronts p

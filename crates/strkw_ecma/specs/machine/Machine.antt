@@ -6,7 +6,7 @@ use Rattle.strkw_ecma.specs.Tree.{Pattern}
 use Rattle.strkw_ecma.specs.machine.Marks.{reads}
 use Rattle.strkw_ecma.specs.Program.{Instruction}
 use Rattle.strkw_ecma.specs.machine.Walk.{Asked, Following}
-use Rattle.strkw_ecma.specs.machine.Shape.{outlined, instructions, are_within}
+use Rattle.strkw_ecma.specs.machine.Shape.{outline_pattern, instructions, are_within}
 use Rattle.strkw_ecma.specs.declared.code.Class.{Class}
 use Rattle.strkw_ecma.specs.declared.code.Code.{Code}
 use Rattle.strkw_ecma.specs.declared.program.Program.{Program}
@@ -15,13 +15,13 @@ use Rattle.strkw_ecma.specs.declared.walk.Ahead.{Ahead}
 use Rattle.strkw_ecma.specs.declared.walk.Walk.{Walk}
 
 abbrev pub pattern_of : Program → Pattern
-pattern_of p = outlined p.outline
+pattern_of p = outline_pattern p.outline
 
-abbrev pub written : Code → List Instruction
-written code = instructions code.classes.items code.instructions.items
+abbrev pub instructions_of : Code → List Instruction
+instructions_of code = instructions code.classes.items code.instructions.items
 
 abbrev pub program_of : Program → List Instruction
-program_of p = written p.code
+program_of p = instructions_of p.code
 
 -- each class that is read is there
 abbrev pub IsWithin : Code → Type 0
@@ -31,7 +31,7 @@ IsWithin code = are_within (length code.classes.items) code.instructions.items �
 -- instructions.
 pub record Writes (old new : Code) (is : List Instruction) : Type 0 where
   pub within : IsWithin old → IsWithin new
-  pub written_is : IsWithin old → written new ≡ written old ++ is
+  pub written_is : IsWithin old → instructions_of new ≡ instructions_of old ++ is
   pub classes : length new.classes.items + length old.instructions.items
       ≤ length old.classes.items + length new.instructions.items
   pub grows : length old.instructions.items ≤ length new.instructions.items

@@ -8,14 +8,14 @@ use Rattle.strkw_ecma.specs.Tree.{Pattern, empty, class, look, cat, alt, start, 
 use Rattle.strkw_ecma.specs.Tree.{no_boundary, lookbehind, lookahead}
 use Rattle.strkw_ecma.specs.Codes.{Code, null_code, letter_code, byte_code, unit_code, pair_code}
 use Rattle.strkw_ecma.specs.Codes.{point_code, code_value, is_hex_digit, hex_number}
-use Rattle.strkw_ecma.specs.Codes.{max_code_point, has_digits}
+use Rattle.strkw_ecma.specs.Codes.{max_code_point}
 use Rattle.strkw_ecma.specs.Names.{NameChar, verbatim, by_code, name_char_value, name_value}
 use Rattle.strkw_ecma.specs.Properties.{property_of}
 use Rattle.strkw_ecma.specs.Classes.{ClassAtom, class_plain, hyphen, class_escaped, class_control}
 use Rattle.strkw_ecma.specs.Classes.{class_set, backspace, class_coded, class_property, Ranges}
 use Rattle.strkw_ecma.specs.Classes.{no_ranges, with_one, with_range, Item, char, set_item, item}
 use Rattle.strkw_ecma.specs.Classes.{item_sets, property_set}
-use Rattle.strkw_ecma.specs.Numbers.{number, number_of, max_count}
+use Rattle.strkw_ecma.specs.Numbers.{number, max_count}
 use Rattle.strkw_ecma.specs.Sets.{line_ends, set_of, set_ranges, is_negative, control_char}
 use Rattle.strkw_ecma.specs.Size.{steps}
 use Rattle.strkw_ecma.specs.Front.{parts, steps_of_parts}

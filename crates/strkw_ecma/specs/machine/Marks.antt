@@ -115,16 +115,16 @@ classes (lookbehind n p) = classes p
 classes (lookahead n p) = 0
 
 -- the pattern with the first marks of a list, in the order of its classes
-abbrev pub marked : List Bool → Pattern → Pattern
-marked ms empty = empty
-marked ms (class m n rs) = class (get_or ms 0 false) n rs
-marked ms (look l) = look l
-marked ms (cat p q) = cat (marked ms p) (marked (drop (classes p) ms) q)
-marked ms (alt p q) = alt (marked ms p) (marked (drop (classes p) ms) q)
-marked ms (star p) = star (marked ms p)
-marked ms (plus p) = plus (marked ms p)
-marked ms (lookbehind n p) = lookbehind n (marked ms p)
-marked ms (lookahead n p) = lookahead n p
+abbrev pub mark_classes : List Bool → Pattern → Pattern
+mark_classes ms empty = empty
+mark_classes ms (class m n rs) = class (get_or ms 0 false) n rs
+mark_classes ms (look l) = look l
+mark_classes ms (cat p q) = cat (mark_classes ms p) (mark_classes (drop (classes p) ms) q)
+mark_classes ms (alt p q) = alt (mark_classes ms p) (mark_classes (drop (classes p) ms) q)
+mark_classes ms (star p) = star (mark_classes ms p)
+mark_classes ms (plus p) = plus (mark_classes ms p)
+mark_classes ms (lookbehind n p) = lookbehind n (mark_classes ms p)
+mark_classes ms (lookahead n p) = lookahead n p
 
 -- no class bears a mark
 abbrev pub is_clean : Pattern → Bool
@@ -139,16 +139,16 @@ is_clean (lookbehind n p) = is_clean p
 is_clean (lookahead n p) = true
 
 -- no class bears a mark, in lookaheads as elsewhere
-abbrev pub unmarked : Pattern → Bool
-unmarked empty = true
-unmarked (class m n rs) = not m
-unmarked (look l) = true
-unmarked (cat p q) = unmarked p && unmarked q
-unmarked (alt p q) = unmarked p && unmarked q
-unmarked (star p) = unmarked p
-unmarked (plus p) = unmarked p
-unmarked (lookbehind n p) = unmarked p
-unmarked (lookahead n p) = unmarked p
+abbrev pub is_unmarked : Pattern → Bool
+is_unmarked empty = true
+is_unmarked (class m n rs) = not m
+is_unmarked (look l) = true
+is_unmarked (cat p q) = is_unmarked p && is_unmarked q
+is_unmarked (alt p q) = is_unmarked p && is_unmarked q
+is_unmarked (star p) = is_unmarked p
+is_unmarked (plus p) = is_unmarked p
+is_unmarked (lookbehind n p) = is_unmarked p
+is_unmarked (lookahead n p) = is_unmarked p
 
 -- the marks of a pattern, in the order of its classes
 abbrev pub marks_of : Pattern → List Bool

@@ -36,13 +36,13 @@ is_sure (least_times n) = nat_lt 0 n
 is_sure (range_times n m) = nat_lt 0 n
 
 -- the character, if one is seen; of terms in a row, that of the last that has one
-abbrev pub needed : Pattern → Option ℕ
-needed empty = None
-needed (class m n rs) = if n then None else only_character rs
-needed (look l) = None
-needed (cat p q) = later (needed p) (needed q)
-needed (alt p q) = common (needed p) (needed q)
-needed (star p) = None
-needed (plus p) = needed p
-needed (lookbehind n p) = None
-needed (lookahead n p) = None
+abbrev pub needed_char : Pattern → Option ℕ
+needed_char empty = None
+needed_char (class m n rs) = if n then None else only_character rs
+needed_char (look l) = None
+needed_char (cat p q) = later (needed_char p) (needed_char q)
+needed_char (alt p q) = common (needed_char p) (needed_char q)
+needed_char (star p) = None
+needed_char (plus p) = needed_char p
+needed_char (lookbehind n p) = None
+needed_char (lookahead n p) = None

@@ -14,7 +14,7 @@ use Rattle.strkw_ecma.specs.machine.Reading.{in_property, in_class_property, nam
 use Rattle.strkw_ecma.specs.machine.Reading.{name_coding, Outer, State}
 use Rattle.strkw_ecma.specs.Classes.{Item, char, set_item}
 use Rattle.strkw_ecma.specs.Sets.{set_ranges}
-use Rattle.strkw_ecma.specs.machine.Shape.{outlined}
+use Rattle.strkw_ecma.specs.machine.Shape.{outline_pattern}
 use Rattle.strkw_ecma.specs.declared.reader.level.Level.{Level as CodeLevel}
 use Rattle.strkw_ecma.specs.declared.reader.Open.{Open as CodeOpen}
 use Rattle.strkw_ecma.specs.declared.reader.Outer.{Outer as CodeOuter}
@@ -39,15 +39,16 @@ use Rattle.strkw_ecma.specs.declared.properties.PropertyRead.{PropertyRead as Co
 use Rattle.strkw_ecma.specs.declared.properties.PropertyRead.TheVariants as code_read
 
 abbrev pub level_of : CodeLevel → Level patterns
-level_of l = record { earlier = option_map outlined l.earlier; current = outlined l.current }
+level_of l =
+    record { earlier = option_map outline_pattern l.earlier; current = outline_pattern l.current }
 
 abbrev pub open_of : CodeOpen → Open patterns
 open_of o = record { enclosing = o.enclosing; level = level_of o.level }
 
 abbrev pub last_of : CodeLast → Last patterns
 last_of last.None = none
-last_of (last.Atom t) = atom (outlined t)
-last_of (last.Counted t) = counted (outlined t)
+last_of (last.Atom t) = atom (outline_pattern t)
+last_of (last.Counted t) = counted (outline_pattern t)
 
 abbrev pub item_of : CodeItem → Item
 item_of (code_item.Char c) = char c

@@ -7,11 +7,11 @@ use Rattle.strkw_ecma.specs.Meaning.{Matches}
 use Rattle.strkw_ecma.specs.Program.{is_class, is_empty, glance, alternatives}
 use Rattle.strkw_ecma.specs.Glances.{is_glance, are_told}
 use Rattle.strkw_ecma.specs.Size.{steps_of, steps, spread, search_steps, max_steps}
-use Rattle.strkw_ecma.specs.Mirror.{along, is_backward, sought}
+use Rattle.strkw_ecma.specs.Mirror.{along, is_backward, target}
 use Rattle.strkw_ecma.specs.Front.{Part, parts, steps_of_parts}
-use Rattle.strkw_ecma.specs.machine.Marks.{unmarked}
+use Rattle.strkw_ecma.specs.machine.Marks.{is_unmarked}
 use Rattle.strkw_ecma.specs.machine.Search.{found_in}
-use Rattle.strkw_ecma.specs.machine.Shape.{outlined}
+use Rattle.strkw_ecma.specs.machine.Shape.{outline_pattern}
 use Rattle.strkw_ecma.specs.declared.passes.Pass.{Pass as CodePass}
 
 -- Two patterns match the same, and a search for the one takes as many steps as one for the other.
@@ -21,7 +21,7 @@ pub record Alike (p q : Pattern) : Type 0 where
   pub class : is_class p ≡ is_class q
   pub sees : is_glance p ≡ is_glance q
   pub told : are_told p ≡ are_told q
-  pub clean : unmarked p ≡ unmarked q
+  pub clean : is_unmarked p ≡ is_unmarked q
   pub apart : steps (spread p) ≡ steps (spread q)
   pub apart_beside : steps_of (alternatives (spread p)) ≡ steps_of (alternatives (spread q))
   pub steps : are_told q ≡ true → steps p ≡ steps q
@@ -41,7 +41,7 @@ are_passes_found (x ∷ xs) text =
 
 abbrev pub are_passes_clean : List Pass → Bool
 are_passes_clean [] = true
-are_passes_clean (x ∷ xs) = unmarked x.pattern && are_passes_clean xs
+are_passes_clean (x ∷ xs) = is_unmarked x.pattern && are_passes_clean xs
 
 -- only what is told from the end of the text on is looked for from there
 abbrev pub are_passes_faced : List Pass → Bool
@@ -56,8 +56,8 @@ steps_of_passes (x ∷ xs) = search_steps x.pattern + steps_of_passes xs
 pub record IsPass (x : Pass) (part : Part) : Type 0 where
   pub negated : x.negated ≡ part.negated
   pub backward : x.backward ≡ is_backward part.pattern
-  pub alike : Alike x.pattern (sought part.pattern)
-  pub steps : search_steps x.pattern ≡ search_steps (sought part.pattern)
+  pub alike : Alike x.pattern (target part.pattern)
+  pub steps : search_steps x.pattern ≡ search_steps (target part.pattern)
 
 -- one for each part
 abbrev pub ArePasses : List Pass → List Part → Type 0
@@ -67,7 +67,8 @@ ArePasses (x ∷ xs) [] = ⊥
 ArePasses (x ∷ xs) (y ∷ ys) = IsPass x y × ArePasses xs ys
 
 abbrev pub pass_of : CodePass → Pass
-pass_of p = record { negated = p.negated; backward = p.is_backward; pattern = outlined p.pattern }
+pass_of p =
+    record { negated = p.negated; backward = p.is_backward; pattern = outline_pattern p.pattern }
 
 abbrev pub passes_of : List CodePass → List Pass
 passes_of [] = []

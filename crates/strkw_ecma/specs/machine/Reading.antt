@@ -107,13 +107,13 @@ all_terms a none = a
 all_terms {M} a (atom x) = M.more a (M.once x)
 all_terms {M} a (counted x) = M.more a (M.greedy x)
 
-abbrev pub joined : (M : Maker) → Option M.Disjunction → M.Alternative → M.Disjunction
-joined M None a = M.only a
-joined M (Some d) a = M.either d a
+abbrev pub join_alternatives : (M : Maker) → Option M.Disjunction → M.Alternative → M.Disjunction
+join_alternatives M None a = M.only a
+join_alternatives M (Some d) a = M.either d a
 
 -- all alternatives of a level
 abbrev pub whole_level : {M : Maker} → Level M → Last M → M.Disjunction
-whole_level {M} l x = joined M l.earlier (all_terms l.current x)
+whole_level {M} l x = join_alternatives M l.earlier (all_terms l.current x)
 
 abbrev pub level_so_far : {M : Maker} → Level M → Last M → Level M
 level_so_far l x = record { earlier = l.earlier; current = all_terms l.current x }
@@ -132,7 +132,10 @@ with_atom s a = record {
 abbrev pub with_term : {M : Maker} → State M → M.Term → State M
 with_term {M} s t = record {
   outer = s.outer;
-  level = record { earlier = s.level.earlier; current = M.more (all_terms s.level.current s.last) t };
+  level = record {
+    earlier = s.level.earlier;
+    current = M.more (all_terms s.level.current s.last) t;
+  };
   last = none;
   mode = between;
 }
@@ -159,8 +162,8 @@ with_open {M} s e true = Some (record {
 })
 
 -- where it is not nested too deep
-abbrev pub opened_within : {M : Maker} → State M → M.Enclosing → Option (State M)
-opened_within s e = with_open s e (nat_lt (length s.outer.groups) max_nesting)
+abbrev pub open_within : {M : Maker} → State M → M.Enclosing → Option (State M)
+open_within s e = with_open s e (nat_lt (length s.outer.groups) max_nesting)
 
 -- behind its end, where it is an atom or a term of the level around it
 abbrev pub with_part : {M : Maker} → Outer M → Level M → Enclosed M.Atom M.Term → State M
@@ -172,14 +175,14 @@ with_part {M} o l (as_term t) = record {
   mode = between;
 }
 
-abbrev pub closed_in : {M : Maker} → List (Open M) → List (List ℕ) → M.Disjunction
+abbrev pub close_in : {M : Maker} → List (Open M) → List (List ℕ) → M.Disjunction
     → Option (State M)
-closed_in [] ns d = None
-closed_in {M} (o ∷ os) ns d =
+close_in [] ns d = None
+close_in {M} (o ∷ os) ns d =
     Some (with_part (record { groups = os; names = ns }) o.level (M.enclose o.enclosing d))
 
-abbrev pub closed : {M : Maker} → State M → Option (State M)
-closed s = closed_in s.outer.groups s.outer.names (whole_level s.level s.last)
+abbrev pub close_level : {M : Maker} → State M → Option (State M)
+close_level s = close_in s.outer.groups s.outer.names (whole_level s.level s.last)
 
 abbrev pub with_quantifier : {M : Maker} → State M → Last M → M.Quantifier → Option (State M)
 with_quantifier s none q = None
@@ -211,7 +214,7 @@ on_token s c question = with_question s s.last
 on_token {M} s c caret = Some (with_term s M.at_start)
 on_token {M} s c dollar = Some (with_term s M.at_end)
 on_token s c opening_token = Some (with_mode s opening)
-on_token s c closing = closed s
+on_token s c closing = close_level s
 on_token {M} s c point = Some (with_atom s M.dot)
 on_token s c backslash = Some (with_mode s escaping)
 on_token s c bracket = Some (with_mode s class_opened)
@@ -249,34 +252,35 @@ on_property {M} s (property_ends n e) =
 -- behind `(`
 abbrev pub on_group : {M : Maker} → State M → ℕ → Bool → Option (State M)
 on_group {M} s c false =
-    option_and_then (λ t. on_token t c (token c)) (opened_within s M.capturing)
+    option_and_then (λ t. on_token t c (token c)) (open_within s M.capturing)
 on_group s c true = Some (with_mode s extending)
 
 -- behind `(?`
 abbrev pub on_extension : {M : Maker} → State M → Extension → Option (State M)
-on_extension {M} s uncaptured = opened_within s M.plain_group
+on_extension {M} s uncaptured = open_within s M.plain_group
 on_extension {M} s name_opening = Some (with_mode s (naming M.no_name))
-on_extension {M} s look_equals = opened_within s (M.lookahead false)
-on_extension {M} s look_negation = opened_within s (M.lookahead true)
+on_extension {M} s look_equals = open_within s (M.lookahead false)
+on_extension {M} s look_negation = open_within s (M.lookahead true)
 on_extension s no_extension = None
 
 -- a class after an atom
-abbrev pub ranged : {M : Maker} → Bool → M.Ranges → M.ClassAtom → M.ClassAtom → Option CharSet
+abbrev pub take_range : {M : Maker} → Bool → M.Ranges → M.ClassAtom → M.ClassAtom → Option CharSet
     → Option (Class M)
-ranged n r y x None = None
-ranged {M} n r y x (Some w) =
+take_range n r y x None = None
+take_range {M} n r y x (Some w) =
     Some (record { negated = n; ranges = M.with_range r y x w; pending = fresh })
 
-abbrev pub took : {M : Maker} → Bool → M.Ranges → Pending M → M.ClassAtom → Option (Class M)
-took n r fresh x = Some (record { negated = n; ranges = r; pending = one x })
-took {M} n r (one y) x = Some (record { negated = n; ranges = M.with_one r y; pending = one x })
-took {M} n r (dashed y) x = ranged n r y x (range (M.item y) (M.item x))
+abbrev pub take_atom : {M : Maker} → Bool → M.Ranges → Pending M → M.ClassAtom → Option (Class M)
+take_atom n r fresh x = Some (record { negated = n; ranges = r; pending = one x })
+take_atom {M} n r (one y) x =
+    Some (record { negated = n; ranges = M.with_one r y; pending = one x })
+take_atom {M} n r (dashed y) x = take_range n r y x (range (M.item y) (M.item x))
 
 -- and after a `-`
-abbrev pub took_dash : {M : Maker} → Bool → M.Ranges → Pending M → Option (Class M)
-took_dash {M} n r fresh = took n r fresh M.hyphen
-took_dash n r (one x) = Some (record { negated = n; ranges = r; pending = dashed x })
-took_dash {M} n r (dashed x) = took n r (dashed x) M.hyphen
+abbrev pub take_dash : {M : Maker} → Bool → M.Ranges → Pending M → Option (Class M)
+take_dash {M} n r fresh = take_atom n r fresh M.hyphen
+take_dash n r (one x) = Some (record { negated = n; ranges = r; pending = dashed x })
+take_dash {M} n r (dashed x) = take_atom n r (dashed x) M.hyphen
 
 abbrev pub whole_class : {M : Maker} → Bool → M.Ranges → Pending M → M.Atom
 whole_class {M} n r fresh = M.bracketed n r false
@@ -286,20 +290,20 @@ whole_class {M} n r (dashed x) = M.bracketed n (M.with_one r x) true
 abbrev pub new_class : {M : Maker} → Bool → Class M
 new_class {M} n = record { negated = n; ranges = M.no_ranges; pending = fresh }
 
-abbrev pub within : {M : Maker} → State M → Option (Class M) → Option (State M)
-within {M} s o = option_map (λ (k : Class M). with_mode s (in_class k)) o
+abbrev pub with_class : {M : Maker} → State M → Option (Class M) → Option (State M)
+with_class {M} s o = option_map (λ (k : Class M). with_mode s (in_class k)) o
 
 -- in a class
 abbrev pub on_class_token : {M : Maker} → State M → Class M → ℕ → ClassToken → Option (State M)
 on_class_token s k c closing_bracket =
     Some (with_atom s (whole_class k.negated k.ranges k.pending))
 on_class_token s k c class_escaper = Some (with_mode s (class_escaping k))
-on_class_token s k c dash = within s (took_dash k.negated k.ranges k.pending)
+on_class_token s k c dash = with_class s (take_dash k.negated k.ranges k.pending)
 on_class_token {M} s k c class_char =
-    within s (took k.negated k.ranges k.pending (M.class_plain c))
+    with_class s (take_atom k.negated k.ranges k.pending (M.class_plain c))
 
 abbrev pub with_item : {M : Maker} → State M → Class M → M.ClassAtom → Option (State M)
-with_item s k x = within s (took k.negated k.ranges k.pending x)
+with_item s k x = with_class s (take_atom k.negated k.ranges k.pending x)
 
 abbrev pub on_class_escape : {M : Maker} → State M → Class M → ℕ → Escape → Option (State M)
 on_class_escape {M} s k c itself = with_item s k (M.class_escaped c)
@@ -347,11 +351,11 @@ with_name s n = record {
 
 abbrev pub on_name_end : {M : Maker} → State M → M.Name → List ℕ → Option (State M)
 on_name_end s n [] = None
-on_name_end {M} s n (c ∷ cs) = opened_within (with_name s (c ∷ cs)) (M.named n)
+on_name_end {M} s n (c ∷ cs) = open_within (with_name s (c ∷ cs)) (M.named n)
 
 -- where no name has begun, a lookbehind
 abbrev pub on_look : {M : Maker} → State M → List ℕ → Bool → Option (State M)
-on_look {M} s [] b = opened_within s (M.lookbehind b)
+on_look {M} s [] b = open_within s (M.lookbehind b)
 on_look s (c ∷ cs) b = None
 
 abbrev pub on_naming : {M : Maker} → State M → M.Name → ℕ → NameToken → Option (State M)
@@ -453,10 +457,10 @@ read_short M source =
     if nat_le (length source) max_length then read_from (initial M) source else None
 
 -- what is not too large
-abbrev pub small : (M : Maker) → Option M.Disjunction → Option M.Disjunction
-small M None = None
-small M (Some d) = when (nat_le (M.disjunction_steps d) max_steps) (Some d)
+abbrev pub keep_small : (M : Maker) → Option M.Disjunction → Option M.Disjunction
+keep_small M None = None
+keep_small M (Some d) = when (nat_le (M.disjunction_steps d) max_steps) (Some d)
 
 -- what is made of a pattern, where the text is one
 abbrev pub read_pattern : (M : Maker) → List ℕ → Option M.Disjunction
-read_pattern M source = if is_apart source then small M (read_short M source) else None
+read_pattern M source = if is_apart source then keep_small M (read_short M source) else None

@@ -123,8 +123,8 @@ with_last s x = record {
 }
 
 -- a group or a lookaround is opened, and whether a quantifier may follow its end
-abbrev pub opened : Standing → Bool → Standing
-opened s q = record {
+abbrev pub open_group : Standing → Bool → Standing
+open_group s q = record {
   groups = q ∷ s.groups;
   last = none;
   captures = s.captures;
@@ -134,8 +134,8 @@ opened s q = record {
 }
 
 -- a group that captures
-abbrev pub captured : Standing → Standing
-captured s = record {
+abbrev pub open_capture : Standing → Standing
+open_capture s = record {
   groups = true ∷ s.groups;
   last = none;
   captures = s.captures + 1;
@@ -149,8 +149,8 @@ abbrev pub when : Bool → Option Standing → Option Standing
 when false o = None
 when true o = o
 
-abbrev pub captured_within : Standing → Option Standing
-captured_within s = when (nat_lt (s.captures + 1) capture_limit) (Some (captured s))
+abbrev pub open_capture_within : Standing → Option Standing
+open_capture_within s = when (nat_lt (s.captures + 1) capture_limit) (Some (open_capture s))
 
 abbrev pub with_name : Standing → List ℕ → Standing
 with_name s n = record {
@@ -163,8 +163,8 @@ with_name s n = record {
 }
 
 -- behind a back reference to a name
-abbrev pub called : Standing → List ℕ → Standing
-called s n = record {
+abbrev pub add_call : Standing → List ℕ → Standing
+add_call s n = record {
   groups = s.groups;
   last = atom;
   captures = s.captures;
@@ -173,16 +173,16 @@ called s n = record {
   calls = s.calls ++ n ∷ [];
 }
 
-abbrev pub greater : ℕ → ℕ → ℕ
-greater n m = if nat_le n m then m else n
+abbrev pub greater_of : ℕ → ℕ → ℕ
+greater_of n m = if nat_le n m then m else n
 
 -- and behind one to a number
-abbrev pub referred : Standing → ℕ → Standing
-referred s n = record {
+abbrev pub add_reference : Standing → ℕ → Standing
+add_reference s n = record {
   groups = s.groups;
   last = atom;
   captures = s.captures;
-  greatest = greater s.greatest n;
+  greatest = greater_of s.greatest n;
   names = s.names;
   calls = s.calls;
 }
@@ -191,9 +191,9 @@ abbrev pub last_if : Bool → Last
 last_if false = none
 last_if true = atom
 
-abbrev pub closed_in : Standing → List Bool → Option Standing
-closed_in s [] = None
-closed_in s (q ∷ gs) = Some (record {
+abbrev pub close_group_in : Standing → List Bool → Option Standing
+close_group_in s [] = None
+close_group_in s (q ∷ gs) = Some (record {
   groups = gs;
   last = last_if q;
   captures = s.captures;
@@ -202,38 +202,38 @@ closed_in s (q ∷ gs) = Some (record {
   calls = s.calls;
 })
 
-abbrev pub closed : Standing → Option Standing
-closed s = closed_in s s.groups
+abbrev pub close_group : Standing → Option Standing
+close_group s = close_group_in s s.groups
 
-abbrev pub quantified_behind : Standing → Last → Option Standing
-quantified_behind s none = None
-quantified_behind s atom = Some (with_last s counted)
-quantified_behind s counted = None
+abbrev pub add_quantifier_behind : Standing → Last → Option Standing
+add_quantifier_behind s none = None
+add_quantifier_behind s atom = Some (with_last s counted)
+add_quantifier_behind s counted = None
 
-abbrev pub quantified : Standing → Option Standing
-quantified s = quantified_behind s s.last
+abbrev pub add_quantifier : Standing → Option Standing
+add_quantifier s = add_quantifier_behind s s.last
 
 -- a `?` behind a quantifier makes it lazy
-abbrev pub questioned_behind : Standing → Last → Option Standing
-questioned_behind s none = None
-questioned_behind s atom = Some (with_last s counted)
-questioned_behind s counted = Some (with_last s none)
+abbrev pub add_question_behind : Standing → Last → Option Standing
+add_question_behind s none = None
+add_question_behind s atom = Some (with_last s counted)
+add_question_behind s counted = Some (with_last s none)
 
-abbrev pub questioned : Standing → Option Standing
-questioned s = questioned_behind s s.last
+abbrev pub add_question : Standing → Option Standing
+add_question s = add_question_behind s s.last
 
 abbrev pub then_stands : Option Standing → Option State
 then_stands o = option_map stands o
 
 abbrev pub on_token : Standing → Token → Option State
 on_token s bar = Some (stands (with_last s none))
-on_token s asterisk = then_stands (quantified s)
-on_token s plus = then_stands (quantified s)
-on_token s question = then_stands (questioned s)
+on_token s asterisk = then_stands (add_quantifier s)
+on_token s plus = then_stands (add_quantifier s)
+on_token s question = then_stands (add_question s)
 on_token s caret = Some (stands (with_last s none))
 on_token s dollar = Some (stands (with_last s none))
 on_token s opening_token = Some (at s opening)
-on_token s closing = then_stands (closed s)
+on_token s closing = then_stands (close_group s)
 on_token s point = Some (stands (with_last s atom))
 on_token s backslash = Some (at s escaping)
 on_token s bracket = Some (at s class_opened)
@@ -261,23 +261,23 @@ on_escape s c no_property = Some (at s (in_property (brace_awaited true)))
 on_escape s c unknown = on_reference s c
 
 -- the number, held at the limit
-abbrev pub held : ℕ → ℕ
-held n = if nat_le n capture_limit then n else capture_limit
+abbrev pub cap_number : ℕ → ℕ
+cap_number n = if nat_le n capture_limit then n else capture_limit
 
 abbrev pub on_referring : Standing → ℕ → ℕ → Bool → Option State
-on_referring s n c false = on_token (referred s n) (token c)
-on_referring s n c true = Some (at s (referring (held (n * 10 + (c - byte "0")))))
+on_referring s n c false = on_token (add_reference s n) (token c)
+on_referring s n c true = Some (at s (referring (cap_number (n * 10 + (c - byte "0")))))
 
 -- escapes by a number
-abbrev pub digit_read : Form → Wanted → ℕ → NumberRead
-digit_read f one_more n = number_ends f n
-digit_read f two_more n = number_goes (digits_of f one_more n)
-digit_read f three_more n = number_goes (digits_of f two_more n)
-digit_read f four_more n = number_goes (digits_of f three_more n)
+abbrev pub read_digit : Form → Wanted → ℕ → NumberRead
+read_digit f one_more n = number_ends f n
+read_digit f two_more n = number_goes (digits_of f one_more n)
+read_digit f three_more n = number_goes (digits_of f two_more n)
+read_digit f four_more n = number_goes (digits_of f three_more n)
 
 abbrev pub digit_or_none : Form → Wanted → Option ℕ → NumberRead
 digit_or_none f w None = no_number
-digit_or_none f w (Some n) = digit_read f w n
+digit_or_none f w (Some n) = read_digit f w n
 
 abbrev pub number_if : Bool → NumberRead → NumberRead
 number_if false r = no_number
@@ -321,14 +321,14 @@ on_property s (property_ends n e) = state_if (is_property e) (Some (stands (with
 
 -- groups
 abbrev pub on_group : Standing → ℕ → Bool → Option State
-on_group s c false = option_and_then (λ t. on_token t (token c)) (captured_within s)
+on_group s c false = option_and_then (λ t. on_token t (token c)) (open_capture_within s)
 on_group s c true = Some (at s extending)
 
 abbrev pub on_extension : Standing → Extension → Option State
-on_extension s uncaptured = Some (stands (opened s true))
+on_extension s uncaptured = Some (stands (open_group s true))
 on_extension s name_opening = Some (at s (naming of_group []))
-on_extension s look_equals = Some (stands (opened s false))
-on_extension s look_negation = Some (stands (opened s false))
+on_extension s look_equals = Some (stands (open_group s false))
+on_extension s look_negation = Some (stands (open_group s false))
 on_extension s no_extension = None
 
 abbrev pub on_calling : Standing → Bool → Option State
@@ -340,11 +340,11 @@ with_name_char s g n c = state_if (may_follow n c) (Some (at s (naming g (n ++ c
 
 abbrev pub name_read : Standing → Naming → List ℕ → Option State
 name_read s g [] = None
-name_read s of_group (d ∷ ds) = then_stands (captured_within (with_name s (d ∷ ds)))
-name_read s of_reference (d ∷ ds) = Some (stands (called s (d ∷ ds)))
+name_read s of_group (d ∷ ds) = then_stands (open_capture_within (with_name s (d ∷ ds)))
+name_read s of_reference (d ∷ ds) = Some (stands (add_call s (d ∷ ds)))
 
 abbrev pub look_read : Standing → Naming → List ℕ → Option State
-look_read s of_group [] = Some (stands (opened s false))
+look_read s of_group [] = Some (stands (open_group s false))
 look_read s of_reference [] = None
 look_read s g (d ∷ ds) = None
 
@@ -368,13 +368,13 @@ on_name_coding s g n (makes c) = with_name_char s g n c
 abbrev pub on_low : Standing → List ℕ → ℕ → CountToken → Option State
 on_low s ds c digit = Some (at s (counting (low (ds ++ c ∷ []))))
 on_low s ds c comma = state_if (has_digits ds) (Some (at s (counting (high ds []))))
-on_low s ds c closing_brace = state_if (has_digits ds) (then_stands (quantified s))
+on_low s ds c closing_brace = state_if (has_digits ds) (then_stands (add_quantifier s))
 on_low s ds c no_count = None
 
 abbrev pub range_read : Standing → List ℕ → List ℕ → Option State
-range_read s ds [] = then_stands (quantified s)
+range_read s ds [] = then_stands (add_quantifier s)
 range_read s ds (e ∷ es) =
-    state_if (nat_le (number ds) (number (e ∷ es))) (then_stands (quantified s))
+    state_if (nat_le (number ds) (number (e ∷ es))) (then_stands (add_quantifier s))
 
 abbrev pub on_high : Standing → List ℕ → List ℕ → ℕ → CountToken → Option State
 on_high s ds es c digit = Some (at s (counting (high ds (es ++ c ∷ []))))
@@ -516,7 +516,7 @@ is_whole s =
 
 abbrev pub ends_in : Standing → Mode → Bool
 ends_in s between = is_whole s
-ends_in s (referring n) = is_whole (referred s n)
+ends_in s (referring n) = is_whole (add_reference s n)
 ends_in s m = false
 
 -- of the state, where there is one

@@ -11,7 +11,8 @@ use Rattle.strkw_ecma.specs.Names.{name_character, name_token}
 use Rattle.strkw_ecma.specs.machine.PropertyReading.{PropertyPart, brace_awaited, in_braces}
 use Rattle.strkw_ecma.specs.machine.Reading.{Last, none, atom, counted, Count, low, high, Mode}
 use Rattle.strkw_ecma.specs.machine.Reading.{between, escaping, opening, extending, class_opened}
-use Rattle.strkw_ecma.specs.machine.Reading.{counting, coding, in_class, class_escaping, class_coding}
+use Rattle.strkw_ecma.specs.machine.Reading.{counting, coding, in_class, class_escaping}
+use Rattle.strkw_ecma.specs.machine.Reading.{class_coding}
 use Rattle.strkw_ecma.specs.machine.Reading.{in_property, in_class_property, naming, name_escaping}
 use Rattle.strkw_ecma.specs.machine.Reading.{name_coding, State}
 use Rattle.strkw_ecma.specs.machine.Makers.{patterns}

@@ -3,9 +3,9 @@ use Rattle.std.specs.Prelude.{ℕ, Bool, true, ◌||◌, ◌&&◌, List, [], ◌
 use Rattle.std.specs.Prelude.{if◌then◌else◌}
 use Rattle.strkw_ecma.specs.Tree.{Pattern, differ}
 use Rattle.strkw_ecma.specs.Front.{Part}
-use Rattle.strkw_ecma.specs.Mirror.{sought, sought_in}
+use Rattle.strkw_ecma.specs.Mirror.{target, sought_in}
 use Rattle.strkw_ecma.specs.Glances.{are_told}
-use Rattle.strkw_ecma.specs.machine.Marks.{leaves, step, unmarked}
+use Rattle.strkw_ecma.specs.machine.Marks.{leaves, step, is_unmarked}
 use Rattle.strkw_ecma.specs.machine.Sight.{depth, ends_by, begins_at}
 
 -- whether the pattern is found in the rest of a text, behind the character `last`
@@ -22,7 +22,7 @@ found_in p text = if are_told p then search_from p None text
 
 -- the same, searched along the text or from its end on
 abbrev pub search : Pattern → List ℕ → Bool
-search p text = found_in (sought p) (sought_in p text)
+search p text = found_in (target p) (sought_in p text)
 
 -- whether each part is found in the text, or is not, as it is to be
 abbrev pub are_parts_found : List Part → List ℕ → Bool
@@ -32,4 +32,4 @@ are_parts_found (x ∷ xs) text = differ x.negated (search x.pattern text) && ar
 -- no class of what is looked for bears a mark
 abbrev pub are_parts_clean : List Part → Bool
 are_parts_clean [] = true
-are_parts_clean (x ∷ xs) = unmarked (sought x.pattern) && are_parts_clean xs
+are_parts_clean (x ∷ xs) = is_unmarked (target x.pattern) && are_parts_clean xs

@@ -5,12 +5,12 @@ use Rattle.strkw_ecma.specs.Size.{steps, max_steps}
 use Rattle.strkw_ecma.specs.machine.Machine.{pattern_of}
 use Rattle.strkw_ecma.specs.machine.Marks.{is_clean}
 use Rattle.strkw_ecma.specs.machine.Seeking.{Seeking}
-use Rattle.strkw_ecma.specs.machine.Shape.{outlined}
+use Rattle.strkw_ecma.specs.machine.Shape.{outline_pattern}
 use Rattle.strkw_ecma.specs.declared.asides.Aside.{Aside}
 use Rattle.strkw_ecma.specs.declared.seeker.Seeker.{Seeker}
 
-abbrev pub seeking : Seeker → Seeking
-seeking s = record {
+abbrev pub seeking_of : Seeker → Seeking
+seeking_of s = record {
   backward = s.is_backward;
   pattern = pattern_of s.program;
   told = s.told.items;
@@ -18,13 +18,13 @@ seeking s = record {
 
 abbrev pub seekings : List Seeker → List Seeking
 seekings [] = []
-seekings (s ∷ ss) = seeking s ∷ seekings ss
+seekings (s ∷ ss) = seeking_of s ∷ seekings ss
 
 -- the same of what is put aside
 abbrev pub quest : Aside → Seeking
 quest x = record {
   backward = x.is_backward;
-  pattern = outlined x.pattern;
+  pattern = outline_pattern x.pattern;
   told = x.told.items;
 }
 
@@ -38,4 +38,4 @@ IsFit p = (steps p ≤ max_steps) × (is_clean p ≡ true)
 
 abbrev pub AreFit : List Aside → Type 0
 AreFit [] = Unit {0}
-AreFit (x ∷ xs) = IsFit (outlined x.pattern) × AreFit xs
+AreFit (x ∷ xs) = IsFit (outline_pattern x.pattern) × AreFit xs

@@ -15,23 +15,23 @@ pub record Seeking : Type 0 where
   pub told : List (Option ℕ)
 
 -- what the row of this number says, where so many characters are still to come
-abbrev pub said : List (List Bool) → ℕ → ℕ → Bool
-said rows ahead k = get_or (get_or rows k []) ahead false
+abbrev pub row_answer : List (List Bool) → ℕ → ℕ → Bool
+row_answer rows ahead k = get_or (get_or rows k []) ahead false
 
 -- Behind the character `last`, and before the rest of a text.
 module _ (rows : List (List Bool)) (ts : List (Option ℕ)) where
   -- at each place, whether the pattern ends there
   abbrev pub ends_from : Pattern → Option ℕ → List ℕ → List Bool
-  ends_from p last [] = leaves last None (told_by (said rows 0) ts p) true ∷ []
+  ends_from p last [] = leaves last None (told_by (row_answer rows 0) ts p) true ∷ []
   ends_from p last (c ∷ cs) =
-      let q = told_by (said rows (suc (length cs))) ts p in
+      let q = told_by (row_answer rows (suc (length cs))) ts p in
       leaves last (Some c) q true ∷ ends_from (step last (Some c) q true) (Some c) cs
 
   -- whether it does at one
   abbrev pub ends_within : Pattern → Option ℕ → List ℕ → Bool
-  ends_within p last [] = leaves last None (told_by (said rows 0) ts p) true
+  ends_within p last [] = leaves last None (told_by (row_answer rows 0) ts p) true
   ends_within p last (c ∷ cs) =
-      let q = told_by (said rows (suc (length cs))) ts p in
+      let q = told_by (row_answer rows (suc (length cs))) ts p in
       leaves last (Some c) q true || ends_within (step last (Some c) q true) (Some c) cs
 
 -- the answers of a search along a text

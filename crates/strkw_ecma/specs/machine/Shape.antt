@@ -36,21 +36,21 @@ quantifier_of (quantifier.AtLeast n) = least_times n
 quantifier_of (quantifier.FromTo n m) = range_times n m
 
 -- one node of an outline, with the patterns of its children in their places
-abbrev pub outlined_node : Outline-F Pattern → Pattern
-outlined_node Outline-F.Empty = empty
-outlined_node (Outline-F.Class negated sets) = class false negated sets.items
-outlined_node Outline-F.Start = look start
-outlined_node Outline-F.End = look end
-outlined_node Outline-F.Boundary = look boundary
-outlined_node Outline-F.NoBoundary = look no_boundary
-outlined_node (Outline-F.Then first second) = cat first.value second.value
-outlined_node (Outline-F.Or first second) = alt first.value second.value
-outlined_node (Outline-F.Repeated q body) = quantified_pattern (quantifier_of q) body.value
-outlined_node (Outline-F.Behind negated body) = lookbehind negated body.value
-outlined_node (Outline-F.Ahead negated body) = lookahead negated body.value
+abbrev pub outline_node : Outline-F Pattern → Pattern
+outline_node Outline-F.Empty = empty
+outline_node (Outline-F.Class negated sets) = class false negated sets.items
+outline_node Outline-F.Start = look start
+outline_node Outline-F.End = look end
+outline_node Outline-F.Boundary = look boundary
+outline_node Outline-F.NoBoundary = look no_boundary
+outline_node (Outline-F.Then first second) = cat first.value second.value
+outline_node (Outline-F.Or first second) = alt first.value second.value
+outline_node (Outline-F.Repeated q body) = quantified_pattern (quantifier_of q) body.value
+outline_node (Outline-F.Behind negated body) = lookbehind negated body.value
+outline_node (Outline-F.Ahead negated body) = lookahead negated body.value
 
-abbrev pub outlined : Outline → Pattern
-outlined = fold-Outline Pattern outlined_node
+abbrev pub outline_pattern : Outline → Pattern
+outline_pattern = fold-Outline Pattern outline_node
 
 -- as a sequence it does not begin with a counted term, whose copies would be one
 abbrev pub plain_node : Outline-F Bool → Bool
@@ -69,39 +69,39 @@ plain_node (Outline-F.Ahead negated body) = true
 abbrev pub is_plain : Outline → Bool
 is_plain = fold-Outline Bool plain_node
 
-abbrev pub turned : Turn → Instruction
-turned turn.Start = assert start
-turned turn.End = assert end
-turned turn.Boundary = assert boundary
-turned turn.NoBoundary = assert no_boundary
-turned turn.Fork = fork
-turned turn.Other = other
-turned turn.Join = join
-turned turn.StarBegin = star_begin
-turned turn.StarEnd = star_end
-turned turn.PlusBegin = plus_begin
-turned turn.PlusEnd = plus_end
-turned (turn.LookBegin negated) = look_begin negated
-turned (turn.LookEnd negated) = look_end negated
+abbrev pub turn_instruction : Turn → Instruction
+turn_instruction turn.Start = assert start
+turn_instruction turn.End = assert end
+turn_instruction turn.Boundary = assert boundary
+turn_instruction turn.NoBoundary = assert no_boundary
+turn_instruction turn.Fork = fork
+turn_instruction turn.Other = other
+turn_instruction turn.Join = join
+turn_instruction turn.StarBegin = star_begin
+turn_instruction turn.StarEnd = star_end
+turn_instruction turn.PlusBegin = plus_begin
+turn_instruction turn.PlusEnd = plus_end
+turn_instruction (turn.LookBegin negated) = look_begin negated
+turn_instruction (turn.LookEnd negated) = look_end negated
 
 -- of a class, if there is one
-abbrev pub reading : Bool → Bool → Option Class → Instruction
-reading again optional None = read again optional false []
-reading again optional (Some c) = read again optional c.negated c.sets.items
+abbrev pub read_instruction : Bool → Bool → Option Class → Instruction
+read_instruction again optional None = read again optional false []
+read_instruction again optional (Some c) = read again optional c.negated c.sets.items
 
-abbrev pub peeking : Option Class → Instruction
-peeking None = peek false []
-peeking (Some c) = peek c.negated c.sets.items
+abbrev pub peek_instruction : Option Class → Instruction
+peek_instruction None = peek false []
+peek_instruction (Some c) = peek c.negated c.sets.items
 
-abbrev pub instructed : List Class → CodeInstruction → Instruction
-instructed classes (instruction.Read k again optional) =
-    reading again optional (slice_get classes k)
-instructed classes (instruction.Peek k) = peeking (slice_get classes k)
-instructed classes (instruction.Turn t) = turned t
+abbrev pub instruction_of : List Class → CodeInstruction → Instruction
+instruction_of classes (instruction.Read k again optional) =
+    read_instruction again optional (slice_get classes k)
+instruction_of classes (instruction.Peek k) = peek_instruction (slice_get classes k)
+instruction_of classes (instruction.Turn t) = turn_instruction t
 
 abbrev pub instructions : List Class → List CodeInstruction → List Instruction
 instructions classes [] = []
-instructions classes (i ∷ is) = instructed classes i ∷ instructions classes is
+instructions classes (i ∷ is) = instruction_of classes i ∷ instructions classes is
 
 -- each class that is read is one of so many
 abbrev pub are_within : ℕ → List CodeInstruction → Bool

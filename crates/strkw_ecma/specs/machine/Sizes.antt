@@ -3,8 +3,8 @@ use Rattle.std.specs.Prelude.{ℕ, ◌+◌, min, Bool, true, false}
 use Rattle.strkw_ecma.specs.Tree.{Pattern}
 use Rattle.strkw_ecma.specs.Size.{max_steps, spread}
 
-abbrev pub capped : ℕ → ℕ
-capped n = min n (max_steps + 1)
+abbrev pub cap_steps : ℕ → ℕ
+cap_steps n = min n (max_steps + 1)
 
 -- as it is, or with a mark beside what each lookaround looks for
 abbrev pub spread_if : Bool → Pattern → Pattern

@@ -8,14 +8,14 @@ use Rattle.std.specs.Prelude.{if◌then◌else◌}
 use Rattle.std.specs.declared.alloc.Global.{Global}
 use Rattle.strkw_ecma.specs.Tree.{Pattern}
 use Rattle.strkw_ecma.specs.Meaning.{is_word, is_edge}
-use Rattle.strkw_ecma.specs.machine.Marks.{leaves, step, marked}
+use Rattle.strkw_ecma.specs.machine.Marks.{leaves, step, mark_classes}
 use Rattle.strkw_ecma.specs.machine.Search.{search_from}
 use Rattle.strkw_ecma.specs.machine.Columns.{answers, has_boundary, Tells}
 use Rattle.strkw_ecma.specs.declared.states.State.{State}
 use Rattle.strkw_ecma.specs.declared.tree.CharSet.{CharSet}
 
-abbrev pub found : ℕ
-found = 0xFFFF
+abbrev pub found_row : ℕ
+found_row = 0xFFFF
 
 -- the entry that leads to the row behind its own
 abbrev pub next_row : ℕ
@@ -31,10 +31,10 @@ row_after end row entry = if entry == next_row then row + (end + 1) else entry
 -- The search by a table: an entry says that the pattern is found, or it leads to a row. It comes to
 -- nothing where a character has no column.
 abbrev pub walk : (ℕ → Option ℕ) → ℕ → List ℕ → ℕ → List ℕ → Option Bool
-walk column end entries row [] = Some (entry_at entries row end == found)
+walk column end entries row [] = Some (entry_at entries row end == found_row)
 walk column end entries row (c ∷ cs) =
     option_and_then
-    (λ k. if entry_at entries row k == found then Some true
+    (λ k. if entry_at entries row k == found_row then Some true
     else walk column end entries (row_after end row (entry_at entries row k)) cs)
     (column c)
 
@@ -74,20 +74,20 @@ IsStateOf p states n ms c =
 
 -- the pattern with the marks of a state
 abbrev pub marks_in : Pattern → State → Pattern
-marks_in p s = marked s.marks.items p
+marks_in p s = mark_classes s.marks.items p
 
 -- the entry of a row is right for a state of the search and the next character
 pub record IsEntry (p : Pattern) (end : ℕ) (states : List State) (s : State) (row c entry : ℕ)
     : Type 0 where
-  pub finds : (entry == found) ≡ leaves s.last (Some c) (marks_in p s) true
+  pub finds : (entry == found_row) ≡ leaves s.last (Some c) (marks_in p s) true
   pub goes : leaves s.last (Some c) (marks_in p s) true ≡ false
-      → (ms : List Bool) × (marked ms p ≡ step s.last (Some c) (marks_in p s) true)
+      → (ms : List Bool) × (mark_classes ms p ≡ step s.last (Some c) (marks_in p s) true)
       × IsBehind p end states (row_after end row entry) ms c
 
 -- the row is right for a state, and for the character that stands for each column
 pub record IsRow (p : Pattern) (samples entries : List ℕ) (states : List State) (s : State)
     (row : ℕ) : Type 0 where
-  pub ends : (entry_at entries row (length samples) == found)
+  pub ends : (entry_at entries row (length samples) == found_row)
       ≡ leaves s.last None (marks_in p s) true
   pub reads : (k : ℕ) → k < length samples
       → IsEntry p (length samples) states s row (get_or samples k 0) (entry_at entries row k)
@@ -122,7 +122,8 @@ pub record AreEntries (p : Pattern) (samples before after : List ℕ) (states la
 
 -- two entries of a row say the same: that the pattern is found, or the row that they lead to
 abbrev pub SaysSame : ℕ → ℕ → ℕ → ℕ → Type 0
-SaysSame end row e f = ((e == found) ≡ (f == found)) × (row_after end row e ≡ row_after end row f)
+SaysSame end row e f =
+    ((e == found_row) ≡ (f == found_row)) × (row_after end row e ≡ row_after end row f)
 
 -- two tables with as many columns say the same, entry by entry
 abbrev pub SayTheSame : ℕ → List ℕ → List ℕ → Type 0

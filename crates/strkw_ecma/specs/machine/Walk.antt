@@ -8,9 +8,9 @@ use Rattle.strkw_ecma.specs.Program.{star_end, plus_begin, plus_end, look_begin,
 use Rattle.strkw_ecma.specs.Tree.{differ}
 
 -- the first of a list, and the list behind it
-abbrev pub top : List Bool → Bool
-top [] = false
-top (x ∷ xs) = x
+abbrev pub first_or_false : List Bool → Bool
+first_or_false [] = false
+first_or_false (x ∷ xs) = x
 
 abbrev pub below : List Bool → List Bool
 below [] = []
@@ -44,8 +44,8 @@ pub record Following : Type 0 where
   pub again : List Bool
 
 -- before the first instruction, which a way enters
-abbrev pub begun : List Bool → Following
-begun again = record { enters = true; around = []; again = again }
+abbrev pub start_following : List Bool → Following
+start_following again = record { enters = true; around = []; again = again }
 
 module _ (b a : Option ℕ) where
   -- one instruction, with the mark of a class
@@ -77,15 +77,16 @@ module _ (b a : Option ℕ) where
   }
   back_over other m s =
       record {
-        ends = top (below s.around);
+        ends = first_or_false (below s.around);
         goes_on = s.goes_on;
-        around = (top s.around || s.ends) ∷ top (below s.around) ∷ below (below s.around);
+        around = (first_or_false s.around || s.ends)
+            ∷ first_or_false (below s.around) ∷ below (below s.around);
         again =
             s.again;
       }
   back_over fork m s =
       record {
-        ends = top s.around || s.ends;
+        ends = first_or_false s.around || s.ends;
         goes_on = s.goes_on;
         around = below (below s.around);
         again = s.again;
@@ -98,8 +99,8 @@ module _ (b a : Option ℕ) where
   }
   back_over star_begin m s =
       record {
-        ends = top (below s.around);
-        goes_on = top s.around || (top (below s.around) && s.goes_on);
+        ends = first_or_false (below s.around);
+        goes_on = first_or_false s.around || (first_or_false (below s.around) && s.goes_on);
         around = below (below s.around);
         again = s.goes_on ∷ s.again;
       }
@@ -111,8 +112,8 @@ module _ (b a : Option ℕ) where
   }
   back_over plus_begin m s =
       record {
-        ends = top (below s.around) && s.ends;
-        goes_on = top s.around || (top (below s.around) && s.goes_on);
+        ends = first_or_false (below s.around) && s.ends;
+        goes_on = first_or_false s.around || (first_or_false (below s.around) && s.goes_on);
         around = below (below s.around);
         again = s.goes_on ∷ s.again;
       }
@@ -124,8 +125,8 @@ module _ (b a : Option ℕ) where
   }
   back_over (look_begin n) m s =
       record {
-        ends = top (below s.around) && differ n (s.goes_on || s.ends);
-        goes_on = top s.around;
+        ends = first_or_false (below s.around) && differ n (s.goes_on || s.ends);
+        goes_on = first_or_false s.around;
         around = below (below s.around);
         again = s.again;
       }
@@ -148,7 +149,7 @@ module _ (b a : Option ℕ) where
   -- backwards
   abbrev pub asked : List Instruction → List Bool → Asked
   asked [] ms = record { ends = true; goes_on = false; around = []; again = [] }
-  asked (i ∷ is) ms = back_over i (top ms) (asked is (marks_behind i ms))
+  asked (i ∷ is) ms = back_over i (first_or_false ms) (asked is (marks_behind i ms))
 
   -- Forwards, over the character behind them. One instruction, with the mark of a class: what is
   -- known behind it,
@@ -172,24 +173,26 @@ module _ (b a : Option ℕ) where
   }
   over other m s =
       record {
-        enters = top (below s.around);
-        around = (top s.around || s.enters) ∷ top (below s.around) ∷ below (below s.around);
+        enters = first_or_false (below s.around);
+        around = (first_or_false s.around || s.enters)
+            ∷ first_or_false (below s.around) ∷ below (below s.around);
         again = s.again;
       }
   over join m s = record {
-    enters = top s.around || s.enters;
+    enters = first_or_false s.around || s.enters;
     around = below (below s.around);
     again = s.again;
   }
   over star_begin m s =
       record {
-        enters = s.enters || top s.again;
-        around = (s.enters || top s.again) ∷ s.around;
+        enters = s.enters || first_or_false s.again;
+        around = (s.enters || first_or_false s.again) ∷ s.around;
         again = below s.again;
       }
-  over star_end m s = record { enters = top s.around; around = below s.around; again = s.again }
+  over star_end m s =
+      record { enters = first_or_false s.around; around = below s.around; again = s.again }
   over plus_begin m s = record {
-    enters = s.enters || top s.again;
+    enters = s.enters || first_or_false s.again;
     around = s.around;
     again = below s.again;
   }
@@ -201,7 +204,7 @@ module _ (b a : Option ℕ) where
   }
   over (look_end n) m s =
       record {
-        enters = top s.around && differ n s.enters;
+        enters = first_or_false s.around && differ n s.enters;
         around = below s.around;
         again = s.again;
       }
@@ -224,9 +227,9 @@ module _ (b a : Option ℕ) where
 
   abbrev pub followed : List Instruction → Following → List Bool → Walked
   followed [] s ms = record { leaves = s.enters; marks = ms }
-  followed (i ∷ is) s ms = left_by i (top ms) s
-      (followed is (over i (top ms) s) (marks_behind i ms))
+  followed (i ∷ is) s ms = left_by i (first_or_false ms) s
+      (followed is (over i (first_or_false ms) s) (marks_behind i ms))
 
   -- both: a walk over the program, which is entered
   abbrev pub walked : List Instruction → List Bool → Walked
-  walked is ms = followed is (begun (asked is ms).again) ms
+  walked is ms = followed is (start_following (asked is ms).again) ms

@@ -3,7 +3,7 @@
 ghost use Rattle.std.specs.Prelude.{◌≡◌, ◌==◌, Some, IfOk, option_map};
 ghost use Rattle.std.specs.Str.{byte};
 ghost use Rattle.strkw_ecma.specs.Classes.{class_token as spec_class_token, class_escape as spec_class_escape};
-ghost use Rattle.strkw_ecma.specs.machine.Reading.{when, within, on_class_token, on_class_escape, on_bracket};
+ghost use Rattle.strkw_ecma.specs.machine.Reading.{when, with_class, on_class_token, on_class_escape, on_bracket};
 ghost use Rattle.strkw_ecma.specs.machine.Parts.{parts_of, class_of};
 
 use super::{Mode, Reader};
@@ -18,7 +18,7 @@ impl Reader {
     // Whether there is one.
     pub(super) fn set_class(&mut self, class: Option<ClassReader>) -> bool
         ensures { when result (Some (parts_of self.new))
-            ≡ within (parts_of self.old) (option_map class_of class) }
+            ≡ with_class (parts_of self.old) (option_map class_of class) }
     {
         match class {
             Some(class) => {
@@ -29,7 +29,7 @@ impl Reader {
         }
     }
 
-    pub(super) fn class_plain(
+    pub(super) fn take_class_char(
         &mut self,
         alloc: Global,
         class: ClassReader,
@@ -52,7 +52,11 @@ impl Reader {
         }
     }
 
-    pub(super) fn class_escaped(&mut self, class: ClassReader, c: char) -> Result<bool, AllocError>
+    pub(super) fn take_class_escape(
+        &mut self,
+        class: ClassReader,
+        c: char,
+    ) -> Result<bool, AllocError>
         ensures { IfOk result (λ taken. when taken (Some (parts_of self.new))
             ≡ on_class_escape (parts_of self.old) (class_of class) c (spec_class_escape c)) }
     {
@@ -89,7 +93,7 @@ impl Reader {
     }
 
     // Behind `[`.
-    pub(super) fn in_bracket(&mut self, alloc: Global, c: char) -> Result<bool, AllocError>
+    pub(super) fn take_in_bracket(&mut self, alloc: Global, c: char) -> Result<bool, AllocError>
         ensures { IfOk result (λ taken. when taken (Some (parts_of self.new))
             ≡ on_bracket (parts_of self.old) c (c == byte "^")) }
     {
@@ -98,7 +102,7 @@ impl Reader {
             self.set_mode(Mode::Class(class));
             Ok(true)
         } else {
-            self.class_plain(alloc, ClassReader::new(alloc, false), c)
+            self.take_class_char(alloc, ClassReader::new(alloc, false), c)
         }
     }
 }

@@ -23,7 +23,7 @@ impl Reader {
         Ok(true)
     }
 
-    pub(super) fn class_coded(
+    pub(super) fn take_class_code(
         &mut self,
         class: ClassReader,
         coded: Coded,

@@ -30,7 +30,7 @@ impl Reader {
     }
 
     // In the first number of a count.
-    pub(super) fn in_count(
+    pub(super) fn take_in_count(
         &mut self,
         alloc: Global,
         first: Option<u32>,
@@ -60,7 +60,7 @@ impl Reader {
     }
 
     // In the second number of a count.
-    pub(super) fn in_range(
+    pub(super) fn take_in_range(
         &mut self,
         alloc: Global,
         first: u32,

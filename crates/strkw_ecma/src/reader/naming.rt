@@ -51,7 +51,7 @@ impl Reader {
         }
     }
 
-    pub(super) fn in_name(
+    pub(super) fn take_in_name(
         &mut self,
         alloc: Global,
         name: Vec<char>,
@@ -72,7 +72,7 @@ impl Reader {
         }
     }
 
-    pub(super) fn name_escaped(&mut self, name: Vec<char>, c: char) -> Result<bool, AllocError>
+    pub(super) fn take_name_escape(&mut self, name: Vec<char>, c: char) -> Result<bool, AllocError>
         ensures { IfOk result (λ taken. when taken (Some (parts_of self.new))
             ≡ on_name_escape (parts_of self.old) name.items (c == byte "u")) }
     {
@@ -84,7 +84,11 @@ impl Reader {
         }
     }
 
-    pub(super) fn name_coded(&mut self, name: Vec<char>, coded: Coded) -> Result<bool, AllocError>
+    pub(super) fn take_name_code(
+        &mut self,
+        name: Vec<char>,
+        coded: Coded,
+    ) -> Result<bool, AllocError>
         ensures { IfOk result (λ taken. when taken (Some (parts_of self.new))
             ≡ on_name_coding (parts_of self.old) name.items (coded_of coded)) }
     {

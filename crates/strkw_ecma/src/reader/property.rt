@@ -8,11 +8,11 @@ ghost use Rattle.strkw_ecma.specs.machine.Parts.{parts_of, class_of, part_of};
 use super::{Mode, Reader};
 use crate::classes::{ClassReader, Item};
 use crate::properties::{PropertyPart, PropertyRead};
-use crate::sets::having;
+use crate::sets::property_outline;
 use std::alloc::{AllocError, Global};
 
 impl Reader {
-    pub(super) fn in_property(
+    pub(super) fn take_in_property(
         &mut self,
         alloc: Global,
         part: PropertyPart,
@@ -29,7 +29,7 @@ impl Reader {
             }
             PropertyRead::Ends(lacked, expression) => match expression.property() {
                 Some(property) => {
-                    self.add_atom(alloc, having(alloc, lacked, property)?)?;
+                    self.add_atom(alloc, property_outline(alloc, lacked, property)?)?;
                     Ok(true)
                 }
                 None => Ok(false),
@@ -37,7 +37,7 @@ impl Reader {
         }
     }
 
-    pub(super) fn in_class_property(
+    pub(super) fn take_in_class_property(
         &mut self,
         alloc: Global,
         class: ClassReader,

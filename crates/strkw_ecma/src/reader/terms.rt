@@ -3,9 +3,9 @@
 ghost use Rattle.std.specs.Prelude.{◌≡◌, true, Some, IfOk};
 ghost use Rattle.strkw_ecma.specs.Tree.{empty};
 ghost use Rattle.strkw_ecma.specs.Patterns.{one_char as spec_one_char};
-ghost use Rattle.strkw_ecma.specs.machine.Shape.{is_plain, outlined, quantifier_of};
+ghost use Rattle.strkw_ecma.specs.machine.Shape.{is_plain, outline_pattern, quantifier_of};
 ghost use Rattle.strkw_ecma.specs.machine.Makers.{enclosed_pattern};
-ghost use Rattle.strkw_ecma.specs.machine.Reading.{when, none, atom, whole_level, level_so_far, opened_within, closed, with_part};
+ghost use Rattle.strkw_ecma.specs.machine.Reading.{when, none, atom, whole_level, level_so_far, open_within, close_level, with_part};
 ghost use Rattle.strkw_ecma.specs.machine.Reading.{with_atom, with_term, with_bar, with_quantifier, with_question};
 ghost use Rattle.strkw_ecma.specs.machine.Parts.{parts_of, level_of, outer_of, last_of};
 
@@ -19,7 +19,7 @@ impl Level {
     // One more term.
     fn add(&mut self, alloc: Global, term: Outline) -> Result<(), AllocError>
         ensures { IfOk result (λ _. level_of self.new
-            ≡ level_so_far (level_of self.old) (atom (outlined term))) }
+            ≡ level_so_far (level_of self.old) (atom (outline_pattern term))) }
     {
         let before = mem::replace(&mut self.current, Outline::Empty);
         self.current = before.then(alloc, term)?;
@@ -40,9 +40,9 @@ impl Level {
 
     // All its alternatives, where this is the last term. They are taken out of it.
     pub(super) fn take(&mut self, alloc: Global, last: Last) -> Result<Outline, AllocError>
-        ensures whole { IfOk result (λ t. outlined t
+        ensures whole { IfOk result (λ t. outline_pattern t
             ≡ whole_level (level_of self.old) (last_of last)) }
-        ensures emptied { IfOk result (λ _. outlined self.new.current ≡ empty) }
+        ensures emptied { IfOk result (λ _. outline_pattern self.new.current ≡ empty) }
         ensures plain { IfOk result (λ t. is_plain t ≡ true) }
     {
         self.add_last(alloc, last)?;
@@ -57,7 +57,7 @@ impl Level {
 impl Reader {
     pub(super) fn add_atom(&mut self, alloc: Global, atom: Outline) -> Result<(), AllocError>
         ensures { IfOk result (λ _. parts_of self.new
-            ≡ with_atom (parts_of self.old) (outlined atom)) }
+            ≡ with_atom (parts_of self.old) (outline_pattern atom)) }
     {
         let last = mem::replace(&mut self.last, Last::Atom(atom));
         self.level.add_last(alloc, last)?;
@@ -75,7 +75,7 @@ impl Reader {
     // A term that no quantifier may follow.
     pub(super) fn add_term(&mut self, alloc: Global, term: Outline) -> Result<(), AllocError>
         ensures { IfOk result (λ _. parts_of self.new
-            ≡ with_term (parts_of self.old) (outlined term)) }
+            ≡ with_term (parts_of self.old) (outline_pattern term)) }
     {
         let last = mem::replace(&mut self.last, Last::None);
         self.level.add_last(alloc, last)?;
@@ -130,7 +130,7 @@ impl Reader {
 
     pub(super) fn open(&mut self, alloc: Global, enclosing: Enclosing) -> Result<bool, AllocError>
         ensures { IfOk result (λ taken. when taken (Some (parts_of self.new))
-            ≡ opened_within (parts_of self.old) enclosing) }
+            ≡ open_within (parts_of self.old) enclosing) }
     {
         if self.outer.groups.len() >= MAX_NESTING {
             return Ok(false);
@@ -157,18 +157,21 @@ impl Reader {
         requires { last_of self.old.last ≡ none }
         ensures { IfOk result (λ _. parts_of self.new
             ≡ with_part (outer_of self.old.outer) (level_of self.old.level)
-            (enclosed_pattern enclosing (outlined body))) }
+            (enclosed_pattern enclosing (outline_pattern body))) }
     {
         match enclosing {
             Enclosing::Group => self.add_atom(alloc, body),
-            Enclosing::Behind(negated) => self.add_term(alloc, body.behind(alloc, negated)?),
-            Enclosing::Ahead(negated) => self.add_term(alloc, body.ahead(alloc, negated)?),
+            Enclosing::Behind(negated) => self.add_term(
+                alloc,
+                body.into_lookbehind(alloc, negated)?,
+            ),
+            Enclosing::Ahead(negated) => self.add_term(alloc, body.into_lookahead(alloc, negated)?),
         }
     }
 
     pub(super) fn close(&mut self, alloc: Global) -> Result<bool, AllocError>
         ensures { IfOk result (λ taken. when taken (Some (parts_of self.new))
-            ≡ closed (parts_of self.old)) }
+            ≡ close_level (parts_of self.old)) }
     {
         let last = mem::replace(&mut self.last, Last::None);
         let body = self.level.take(alloc, last)?;

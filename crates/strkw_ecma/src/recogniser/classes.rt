@@ -71,7 +71,7 @@ impl Item {
     }
 
     // Behind this item, a `-` and another.
-    fn to(self, item: Item) -> Option<Pending>
+    fn range_to(self, item: Item) -> Option<Pending>
         ensures { result ≡ took_dashed self item }
     {
         match item {
@@ -82,7 +82,7 @@ impl Item {
     }
 
     // Behind a range from this item to a leading surrogate, and another item.
-    fn to_lead(self, lead: u16, item: Item) -> Option<Pending>
+    fn range_to_lead(self, lead: u16, item: Item) -> Option<Pending>
         ensures { result ≡ took_ranged self lead item }
     {
         match item {
@@ -104,8 +104,8 @@ impl Pending {
         match self {
             Pending::Fresh => Some(Pending::One(item)),
             Pending::One(before) => Some(before.then(item)),
-            Pending::Dashed(first) => first.to(item),
-            Pending::Ranged(first, lead) => first.to_lead(lead, item),
+            Pending::Dashed(first) => first.range_to(item),
+            Pending::Ranged(first, lead) => first.range_to_lead(lead, item),
         }
     }
 

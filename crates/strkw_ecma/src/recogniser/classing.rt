@@ -30,7 +30,7 @@ impl Recogniser {
         }
     }
 
-    pub(super) fn class_plain(&mut self, class: Pending, c: char) -> bool
+    pub(super) fn take_class_char(&mut self, class: Pending, c: char) -> bool
         ensures { state_if result (Some (state_of self.new))
             ≡ on_class_token (standing_of self.old.standing) class c (spec_class_token c) }
     {
@@ -49,7 +49,7 @@ impl Recogniser {
         }
     }
 
-    pub(super) fn class_escaped(&mut self, class: Pending, c: char) -> bool
+    pub(super) fn take_class_escape(&mut self, class: Pending, c: char) -> bool
         ensures { state_if result (Some (state_of self.new))
             ≡ on_class_escape (standing_of self.old.standing) class c (spec_class_escape c) }
     {
@@ -107,14 +107,14 @@ impl Recogniser {
     }
 
     // Behind `[`.
-    pub(super) fn in_bracket(&mut self, c: char) -> bool
+    pub(super) fn take_in_bracket(&mut self, c: char) -> bool
         ensures { state_if result (Some (state_of self.new))
             ≡ on_bracket (standing_of self.old.standing) c (c == byte "^") }
     {
         if c == '^' {
             self.set_class(Some(Pending::Fresh))
         } else {
-            self.class_plain(Pending::Fresh, c)
+            self.take_class_char(Pending::Fresh, c)
         }
     }
 }

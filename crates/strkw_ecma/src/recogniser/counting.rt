@@ -18,7 +18,7 @@ pub(crate) enum Count {
 
 impl Recogniser {
     // In the first number of a count.
-    pub(super) fn in_count(
+    pub(super) fn take_in_count(
         &mut self,
         alloc: Global,
         first: Digits,
@@ -29,7 +29,7 @@ impl Recogniser {
     {
         match CountToken::of(c) {
             CountToken::Digit => {
-                self.mode = Mode::Counting(Count::Low(first.with(c)?));
+                self.mode = Mode::Counting(Count::Low(first.with_digit(c)?));
                 Ok(true)
             }
             CountToken::Comma if !first.is_empty() => {
@@ -42,7 +42,7 @@ impl Recogniser {
     }
 
     // In the second number of a count.
-    pub(super) fn in_range(
+    pub(super) fn take_in_range(
         &mut self,
         first: Digits,
         second: Digits,
@@ -54,7 +54,7 @@ impl Recogniser {
     {
         match CountToken::of(c) {
             CountToken::Digit => {
-                self.mode = Mode::Counting(Count::High(first, second.with(c)?));
+                self.mode = Mode::Counting(Count::High(first, second.with_digit(c)?));
                 Ok(true)
             }
             CountToken::Closing if second.is_empty() || first.is_within(&second) => {

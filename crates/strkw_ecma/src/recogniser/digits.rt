@@ -61,7 +61,7 @@ impl Digits {
     }
 
     #[tactic(auto, using(crate::proofs::Digits::digits_push))]
-    pub(super) fn with(self, c: char) -> Result<Digits, AllocError>
+    pub(super) fn with_digit(self, c: char) -> Result<Digits, AllocError>
         requires { is_digit c ≡ true }
         ensures { IfOk result (λ longer. longer.digits.items ≡ self.digits.items ++ c ∷ []) }
     {

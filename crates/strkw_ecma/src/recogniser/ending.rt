@@ -11,7 +11,7 @@ use std::alloc::{AllocError, Global};
 use std::collections::BTreeSet;
 
 // The names as a set, and `None` where one is there twice.
-fn distinct<'a>(
+fn distinct_names<'a>(
     alloc: Global,
     names: &'a [Vec<char>],
 ) -> Result<Option<BTreeSet<&'a [char]>>, AllocError>
@@ -51,7 +51,7 @@ impl Standing {
         if !self.is_complete() {
             return Ok(false);
         }
-        match distinct(alloc, &self.names)? {
+        match distinct_names(alloc, &self.names)? {
             Some(names) => Ok(has_all(&names, &self.calls)),
             None => Ok(false),
         }

@@ -75,7 +75,7 @@ impl Recogniser {
         }
     }
 
-    pub(super) fn in_name(
+    pub(super) fn take_in_name(
         &mut self,
         naming: Naming,
         name: Vec<char>,
@@ -95,7 +95,7 @@ impl Recogniser {
         }
     }
 
-    pub(super) fn name_escaped(&mut self, naming: Naming, name: Vec<char>, c: char) -> bool
+    pub(super) fn take_name_escape(&mut self, naming: Naming, name: Vec<char>, c: char) -> bool
         ensures { state_if result (Some (state_of self.new))
             ≡ on_name_escape (standing_of self.old.standing) naming name.items (c == byte "u") }
     {
@@ -107,7 +107,7 @@ impl Recogniser {
         }
     }
 
-    pub(super) fn name_coded(
+    pub(super) fn take_name_code(
         &mut self,
         naming: Naming,
         name: Vec<char>,

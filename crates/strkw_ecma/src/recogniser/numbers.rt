@@ -4,7 +4,7 @@
 ghost use Rattle.std.specs.Prelude.{◌≡◌};
 ghost use Rattle.strkw_ecma.specs.machine.Makers.{hex_with};
 ghost use Rattle.strkw_ecma.specs.machine.CodeReading.{value_or};
-ghost use Rattle.strkw_ecma.specs.machine.Recognising.{digit_read as spec_digit_read, digit_or_none, point_digit, number_next};
+ghost use Rattle.strkw_ecma.specs.machine.Recognising.{read_digit as spec_read_digit, digit_or_none, point_digit, number_next};
 
 use crate::codes::{Wanted, with_hex_digit};
 
@@ -34,8 +34,8 @@ pub(crate) enum NumberRead {
 
 impl Form {
     // Behind one more digit.
-    fn digit_read(self, wanted: Wanted, number: u32) -> NumberRead
-        ensures { result ≡ spec_digit_read self wanted number }
+    fn read_digit(self, wanted: Wanted, number: u32) -> NumberRead
+        ensures { result ≡ spec_read_digit self wanted number }
     {
         match wanted {
             Wanted::One => NumberRead::Makes(self, number),
@@ -45,17 +45,17 @@ impl Form {
         }
     }
 
-    fn on_digit(self, wanted: Wanted, number: u32, c: char) -> NumberRead
+    fn take_digit(self, wanted: Wanted, number: u32, c: char) -> NumberRead
         ensures { result ≡ digit_or_none self wanted (hex_with number c) }
     {
         match with_hex_digit(number, c) {
-            Some(longer) => self.digit_read(wanted, longer),
+            Some(longer) => self.read_digit(wanted, longer),
             None => NumberRead::Fails,
         }
     }
 }
 
-fn on_point_digit(number: Option<u32>, c: char) -> NumberRead
+fn take_point_digit(number: Option<u32>, c: char) -> NumberRead
     ensures { result ≡ point_digit (hex_with (value_or 0 number) c) }
 {
     match with_hex_digit(number.unwrap_or(0), c) {
@@ -75,9 +75,9 @@ impl NumberPart {
             }
             NumberPart::Letter => NumberRead::Fails,
             NumberPart::UnitOpened if c == '{' => NumberRead::Goes(NumberPart::PointOpened(None)),
-            NumberPart::UnitOpened => Form::Unit.on_digit(Wanted::Four, 0, c),
-            NumberPart::Digits(form, wanted, number) => form.on_digit(wanted, number, c),
-            NumberPart::PointOpened(number) if c != '}' => on_point_digit(number, c),
+            NumberPart::UnitOpened => Form::Unit.take_digit(Wanted::Four, 0, c),
+            NumberPart::Digits(form, wanted, number) => form.take_digit(wanted, number, c),
+            NumberPart::PointOpened(number) if c != '}' => take_point_digit(number, c),
             NumberPart::PointOpened(Some(number)) => NumberRead::Makes(Form::Other, number),
             NumberPart::PointOpened(None) => NumberRead::Fails,
         }

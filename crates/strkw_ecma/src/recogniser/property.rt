@@ -43,7 +43,7 @@ fn is_property(alloc: Global, expression: Expression) -> Result<bool, AllocError
 }
 
 impl Recogniser {
-    pub(super) fn in_property(
+    pub(super) fn take_in_property(
         &mut self,
         alloc: Global,
         part: PropertyPart,
@@ -65,7 +65,7 @@ impl Recogniser {
         }
     }
 
-    pub(super) fn in_class_property(
+    pub(super) fn take_in_class_property(
         &mut self,
         alloc: Global,
         class: Pending,
@@ -73,7 +73,8 @@ impl Recogniser {
         c: char,
     ) -> Result<bool, AllocError>
         ensures { IfOk result (λ taken. state_if taken (Some (state_of self.new))
-            ≡ on_class_property (standing_of self.old.standing) class (property_next (part_of part) c)) }
+            ≡ on_class_property (standing_of self.old.standing) class
+            (property_next (part_of part) c)) }
     {
         match part.next(alloc, c)? {
             PropertyRead::Fails => Ok(false),

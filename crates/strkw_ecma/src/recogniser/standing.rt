@@ -1,8 +1,8 @@
 //! What is known between two terms of a pattern.
 
 ghost use Rattle.std.specs.Prelude.{◌≡◌, Some, IfOk};
-ghost use Rattle.strkw_ecma.specs.machine.Recognising.{standing_of, with_last, opened, captured_within, with_name, called, referred};
-ghost use Rattle.strkw_ecma.specs.machine.Recognising.{closed, quantified, questioned, when};
+ghost use Rattle.strkw_ecma.specs.machine.Recognising.{standing_of, with_last, open_group, open_capture_within, with_name, add_call, add_reference};
+ghost use Rattle.strkw_ecma.specs.machine.Recognising.{close_group, add_quantifier, add_question, when};
 
 use std::alloc::{AllocError, Global};
 
@@ -39,7 +39,8 @@ impl Standing {
 
     // Opens a group that does not capture, or a lookaround, which no quantifier may follow.
     pub(super) fn open(&mut self, is_group: bool) -> Result<(), AllocError>
-        ensures { IfOk result (λ _. standing_of self.new ≡ opened (standing_of self.old) is_group) }
+        ensures { IfOk result
+            (λ _. standing_of self.new ≡ open_group (standing_of self.old) is_group) }
     {
         self.groups.push(is_group)?;
         self.last = Last::None;
@@ -49,7 +50,7 @@ impl Standing {
     // Opens a group that captures, where there are not too many.
     pub(super) fn capture(&mut self) -> Result<bool, AllocError>
         ensures { IfOk result (λ taken. when taken (Some (standing_of self.new))
-            ≡ captured_within (standing_of self.old)) }
+            ≡ open_capture_within (standing_of self.old)) }
     {
         if self.captures >= CAPTURE_LIMIT - 1 {
             return Ok(false);
@@ -70,7 +71,7 @@ impl Standing {
     // Behind a back reference to a name.
     pub(super) fn call(&mut self, name: Vec<char>) -> Result<(), AllocError>
         ensures { IfOk result (λ _.
-            standing_of self.new ≡ called (standing_of self.old) name.items) }
+            standing_of self.new ≡ add_call (standing_of self.old) name.items) }
     {
         self.calls.push(name)?;
         self.last = Last::Atom;
@@ -79,7 +80,7 @@ impl Standing {
 
     // Behind a back reference to a group by its number.
     pub(super) fn refer(&mut self, number: u32)
-        ensures { standing_of self.new ≡ referred (standing_of self.old) number }
+        ensures { standing_of self.new ≡ add_reference (standing_of self.old) number }
     {
         if self.greatest <= number {
             self.greatest = number;
@@ -89,7 +90,7 @@ impl Standing {
 
     // Whether something was open.
     pub(super) fn close(&mut self) -> bool
-        ensures { when result (Some (standing_of self.new)) ≡ closed (standing_of self.old) }
+        ensures { when result (Some (standing_of self.new)) ≡ close_group (standing_of self.old) }
     {
         match self.groups.pop() {
             None => false,
@@ -102,7 +103,8 @@ impl Standing {
 
     // Whether a quantifier may stand here.
     pub(super) fn quantify(&mut self) -> bool
-        ensures { when result (Some (standing_of self.new)) ≡ quantified (standing_of self.old) }
+        ensures { when result (Some (standing_of self.new))
+            ≡ add_quantifier (standing_of self.old) }
     {
         match self.last {
             Last::Atom => {
@@ -115,7 +117,7 @@ impl Standing {
 
     // The same of a `?`, which behind a quantifier makes it lazy.
     pub(super) fn question(&mut self) -> bool
-        ensures { when result (Some (standing_of self.new)) ≡ questioned (standing_of self.old) }
+        ensures { when result (Some (standing_of self.new)) ≡ add_question (standing_of self.old) }
     {
         match self.last {
             Last::None => false,

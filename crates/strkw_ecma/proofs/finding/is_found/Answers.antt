@@ -5,7 +5,7 @@ use Rattle.strkw_ecma.specs.Meaning.{Found}
 use Rattle.strkw_ecma.specs.Mirror.{along}
 use Rattle.strkw_ecma.specs.machine.Along.{left_of}
 use Rattle.strkw_ecma.specs.machine.Machine.{pattern_of}
-use Rattle.strkw_ecma.specs.machine.Marks.{marked}
+use Rattle.strkw_ecma.specs.machine.Marks.{mark_classes}
 use Rattle.strkw_ecma.specs.machine.Search.{search_from}
 use Rattle.strkw_ecma.proofs.Answers.{search_is_exact, search_turn, search_found, search_ends}
 use Rattle.strkw_ecma.proofs.Machines.{few_marks}
@@ -16,7 +16,7 @@ use Rattle.strkw_ecma.proofs.finding.is_found.Goals as goal
 pub characters-init : goal.characters-init
 characters-init c =
     let p = pattern_of c.args.program.now in
-    let none : marked (replicate 2600 false) p ≡ p = unmarked (replicate 2600 false) p c.requires.clean (none_marked 2600) in
+    let none : mark_classes (replicate 2600 false) p ≡ p = unmarked (replicate 2600 false) p c.requires.clean (none_marked 2600) in
     record {
       long = length-replicate 2600 false;
       so_far = ap (λ q. search_from q None (left_of c.new-left.result)) none ∙ ap (search_from p None) c.new-left.ensures;

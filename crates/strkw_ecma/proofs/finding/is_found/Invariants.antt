@@ -2,7 +2,7 @@ use Rattle.std.proofs.Common.{◌≡◌, length, None}
 use Rattle.std.specs.Str.{chars}
 use Rattle.strkw_ecma.specs.Mirror.{along}
 use Rattle.strkw_ecma.specs.machine.Along.{left_of}
-use Rattle.strkw_ecma.specs.machine.Marks.{marked}
+use Rattle.strkw_ecma.specs.machine.Marks.{mark_classes}
 use Rattle.strkw_ecma.specs.machine.Machine.{pattern_of}
 use Rattle.strkw_ecma.specs.machine.Search.{search_from}
 use Rattle.strkw_ecma.proofs.finding.is_found.Given as goal
@@ -11,7 +11,7 @@ use Rattle.strkw_ecma.proofs.finding.is_found.Given as goal
 abbrev pub invariant-characters : goal.invariant-characters
 invariant-characters l = record {
   long : length l.marks ≡ 2600;
-  so_far : search_from (marked l.marks (pattern_of l.program)) l.last (left_of l.left)
+  so_far : search_from (mark_classes l.marks (pattern_of l.program)) l.last (left_of l.left)
       ≡ search_from (pattern_of l.program) None (along l.is_backward (chars l.text));
 }
 

@@ -22,7 +22,7 @@ loop-c-preserved c =
     c.next.ensures.steps in
     let stands : may_precede (c.loop-c.front) c.in-Some.c ≡ true = cc in
     turn_goes (chars c.args.source.now) (c.loop-c.front) _ c.loop-c.invariant _ c.in-Some.c turn.0 turn.1 (longer c.loop-c.yielded c.in-Some.c) stands
-    (c.after-front.result) c.after-front.ensures
+    (c.next-front.result) c.next-front.ensures
 
 pub returns : goal.returns
 returns c =

@@ -2,13 +2,13 @@ use Rattle.std.proofs.Common.{◌≡◌, ◌∷◌, ◌++◌, [], List, false, I
 use Rattle.strkw_ecma.specs.Front.{Part, rest, fronts, parts}
 use Rattle.strkw_ecma.specs.machine.Fronts.{parts_view}
 use Rattle.strkw_ecma.specs.machine.Passes.{Pass, ArePasses, passes_of, pass_of}
-use Rattle.strkw_ecma.specs.machine.Shape.{outlined}
+use Rattle.strkw_ecma.specs.machine.Shape.{outline_pattern}
 use Rattle.strkw_ecma.proofs.passes.passes_for.Goals as goal
 
 pub returns : goal.returns
 returns c =
-    let p = outlined c.args.outline in
-    let first : Part = record { negated = false; pattern = outlined c.in_ok-cut.cut.rest } in
+    let p = outline_pattern c.args.outline in
+    let first : Part = record { negated = false; pattern = outline_pattern c.in_ok-cut.cut.rest } in
     let pass = c.in_ok-of.field-0 in
     let one : passes_of c.push.new.self.items ≡ pass_of pass ∷ [] =
     ap passes_of (c.in_ok-push.ensures.items ∙ ap (λ l. l ++ pass ∷ []) c.new-passes.ensures.items) in

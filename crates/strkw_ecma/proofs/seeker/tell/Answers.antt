@@ -2,7 +2,7 @@ use Rattle.std.proofs.Common.{◌≡◌, ◌<◌, ◌≤◌, ℕ, suc, Bool, tru
 use Rattle.std.proofs.lemmas.Bool.{leb-true, leb-false}
 use Rattle.std.proofs.lemmas.List.{get_or_past}
 use Rattle.strkw_ecma.specs.machine.Bits.{rows_of}
-use Rattle.strkw_ecma.specs.machine.Seeking.{said}
+use Rattle.strkw_ecma.specs.machine.Seeking.{row_answer}
 use Rattle.strkw_ecma.specs.machine.Slots.{told_mark}
 use Rattle.strkw_ecma.proofs.Slots.{marks_told}
 use Rattle.strkw_ecma.proofs.seeker.tell.Goals as goal
@@ -22,7 +22,7 @@ each_told now ts ms ns place k all within so_far others = by_order (nat_le (suc 
 
 pub returns-clause-marks : goal.returns-clause-marks
 returns-clause-marks c = λ p fits.
-    let now = said (rows_of c.args.rows.now) c.args.ahead in
+    let now = row_answer (rows_of c.args.rows.now) c.args.ahead in
     let all : length c.args.told.now ≤ c.loop-place.place = omega (arith, c.loop-place-test.false) in
     marks_told now p c.args.told.now c.args.marks.now c.loop-place.marks
     (λ k h. each_told now c.args.told.now c.args.marks.now c.loop-place.marks c.loop-place.place k all

@@ -1,6 +1,6 @@
 use Rattle.std.proofs.Common.{◌≡◌, ◌<◌, ◌≤◌, ℕ, false, get_or, length, None}
 use Rattle.strkw_ecma.specs.machine.Bits.{rows_of}
-use Rattle.strkw_ecma.specs.machine.Seeking.{said}
+use Rattle.strkw_ecma.specs.machine.Seeking.{row_answer}
 use Rattle.strkw_ecma.specs.machine.Slots.{told_mark}
 use Rattle.strkw_ecma.proofs.seeker.tell.Given as goal
 
@@ -9,6 +9,6 @@ abbrev pub invariant-loop-place : goal.invariant-loop-place
 invariant-loop-place l = record {
   long : length l.marks ≡ length l.initial.marks;
   so_far : (k : ℕ) → k < l.place → k < length l.marks
-      → get_or l.marks k false ≡ told_mark (said (rows_of l.rows) l.ahead) (get_or l.told k None) (get_or l.initial.marks k false);
+      → get_or l.marks k false ≡ told_mark (row_answer (rows_of l.rows) l.ahead) (get_or l.told k None) (get_or l.initial.marks k false);
   others : (k : ℕ) → l.place ≤ k → get_or l.marks k false ≡ get_or l.initial.marks k false;
 }

@@ -2,7 +2,7 @@ use Rattle.std.proofs.Common.{◌≡◌, ◌+◌, ◌++◌, ◌∷◌, [], Bool,
 use Rattle.std.specs.Str.{chars}
 use Rattle.std.proofs.lemmas.List.{drop_more}
 use Rattle.strkw_ecma.specs.machine.Bits.{rows_of}
-use Rattle.strkw_ecma.specs.machine.Seekers.{seeking, seekings}
+use Rattle.strkw_ecma.specs.machine.Seekers.{seeking_of, seekings}
 use Rattle.strkw_ecma.specs.machine.Seeking.{row_of, rows_behind}
 use Rattle.strkw_ecma.specs.declared.bits.Bits.{Bits}
 use Rattle.strkw_ecma.specs.declared.seeker.Seeker.{Seeker}
@@ -22,5 +22,5 @@ loop-seeker-preserved c =
     ap (λ (l : List Bits). rows_behind (rows_of l) text rest) c.in_ok-push.ensures.items
     ∙ ap (λ (l : List (List Bool)). rows_behind l text rest) (rows_append c.loop-seeker.rows.items c.in_ok-bits.bits)
     ∙ ap (λ (l : List Bool). rows_behind (rows ++ (l ∷ [])) text rest)
-    (c.in_ok-bits.ensures ∙ ap (λ (l : List Bits). row_of (rows_of l) text (seeking x)) c.deref.ensures.value)
+    (c.in_ok-bits.ensures ∙ ap (λ (l : List Bits). row_of (rows_of l) text (seeking_of x)) c.deref.ensures.value)
     ∙ sym (ap (λ (l : List Seeker). rows_behind rows text (seekings l)) left) ∙ c.loop-seeker.invariant

@@ -1,7 +1,7 @@
 use Rattle.std.proofs.Common.{◌∷◌, ◌++◌, [], sym, ap, subst, ◌∙◌, append-nil}
 use Rattle.std.specs.Vec.Iter.{into_iter_items}
 use Rattle.std.proofs.lemmas.List.{append_assoc, nil_from_length}
-use Rattle.strkw_ecma.specs.machine.Seekers.{AreFit, seeking, seekings, quests}
+use Rattle.strkw_ecma.specs.machine.Seekers.{AreFit, seeking_of, seekings, quests}
 use Rattle.strkw_ecma.proofs.Finders.{one_taken}
 use Rattle.strkw_ecma.proofs.Seekings.{seekings_append}
 use Rattle.strkw_ecma.proofs.seekers.seekers_of.Goals as goal
@@ -17,7 +17,7 @@ loop-aside-preserved c =
     record {
       made = ap (λ l. seekings l ++ quests rest) c.in_ok-push.ensures.items
           ∙ ap (λ l. l ++ quests rest) (seekings_append c.loop-aside.seekers.items _)
-          ∙ append_assoc made (seeking c.in_ok-seeker.seeker ∷ []) (quests rest)
+          ∙ append_assoc made (seeking_of c.in_ok-seeker.seeker ∷ []) (quests rest)
           ∙ ap (λ q. made ++ (q ∷ quests rest)) c.in_ok-seeker.ensures
           ∙ ap (λ l. made ++ quests l) (sym step.0) ∙ c.loop-aside.invariant.made;
       fit = (subst AreFit step.0 c.loop-aside.invariant.fit).1;

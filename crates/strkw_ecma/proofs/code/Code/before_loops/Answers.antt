@@ -1,6 +1,6 @@
 use Rattle.std.proofs.Common.{◌≡◌, ◌+◌, ◌<◌, suc, false, List, length, get_or, sym, ap, subst, ◌∙◌, arith}
 use Rattle.strkw_ecma.specs.Program.{is_loop}
-use Rattle.strkw_ecma.specs.machine.Shape.{instructed}
+use Rattle.strkw_ecma.specs.machine.Shape.{instruction_of}
 use Rattle.strkw_ecma.specs.declared.code.Instruction.{Instruction}
 use Rattle.strkw_ecma.proofs.Machines.{none_before_next}
 use Rattle.strkw_ecma.proofs.code.Code.before_loops.Goals as goal
@@ -15,5 +15,5 @@ loop-place-preserved c =
     let next : place + 1 ≡ suc place = omega arith in
     rw next
     (none_before_next classes items place _ within c.loop-place.invariant
-    (subst (λ (is : List Instruction). is_loop (instructed classes (get_or is place _)) ≡ false) same
+    (subst (λ (is : List Instruction). is_loop (instruction_of classes (get_or is place _)) ≡ false) same
     (sym (c.begins_loop.ensures classes) ∙ c.if-begins_loop.false)))

@@ -1,10 +1,10 @@
 use Rattle.std.proofs.Common.{◌≡◌, ◌++◌, drop, length}
-use Rattle.strkw_ecma.specs.Program.{copied}
+use Rattle.strkw_ecma.specs.Program.{concat_copies}
 use Rattle.strkw_ecma.proofs.code.Code.copy.Given as goal
 
 abbrev pub invariant-loop : goal.invariant-loop
 invariant-loop l = record {
-  instructions : l.self.instructions.items ≡ l.fn.self.instructions.items ++ copied l.counter (drop l.from l.fn.self.instructions.items);
+  instructions : l.self.instructions.items ≡ l.fn.self.instructions.items ++ concat_copies l.counter (drop l.from l.fn.self.instructions.items);
   classes : l.self.classes ≡ l.fn.self.classes;
   end_is : l.end ≡ length l.fn.self.instructions.items;
 }

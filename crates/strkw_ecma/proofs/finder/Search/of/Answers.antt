@@ -2,7 +2,7 @@ use Rattle.std.proofs.Common.{◌≡◌, true, false, List, [], ◌∷◌, lengt
 use Rattle.strkw_ecma.specs.Glances.{are_told}
 use Rattle.strkw_ecma.specs.machine.Asides.{AreAsides}
 use Rattle.strkw_ecma.specs.machine.Seekers.{quests}
-use Rattle.strkw_ecma.specs.machine.Shape.{outlined}
+use Rattle.strkw_ecma.specs.machine.Shape.{outline_pattern}
 use Rattle.strkw_ecma.specs.declared.asides.Aside.{Aside}
 use Rattle.strkw_ecma.proofs.Seekings.{found_plain, found_told, are_fit, set_fit}
 use Rattle.strkw_ecma.proofs.Sizes.{told_steps, far_steps}
@@ -16,24 +16,24 @@ no_asides (x ∷ xs) none = absurd (omega (arith, ap length none))
 
 pub of-requires : goal.of-requires
 of-requires c =
-    let told : are_told (outlined c.args.pattern) ≡ true = cc in
+    let told : are_told (outline_pattern c.args.pattern) ≡ true = cc in
     record {
-      small = omega (arith, told_steps (outlined c.args.pattern) told, c.requires.small);
-      clean = clean_unmarked (outlined c.args.pattern) c.requires.bare;
+      small = omega (arith, told_steps (outline_pattern c.args.pattern) told, c.requires.small);
+      clean = clean_unmarked (outline_pattern c.args.pattern) c.requires.bare;
       told = told;
     }
 
 pub returns-then-is_told : goal.returns-then-is_told
 returns-then-is_told c = λ text.
-    let told : are_told (outlined c.args.pattern) ≡ true = cc in
-    found_plain (outlined c.args.pattern) _ c.args.is_backward text told c.in_ok-finder.ensures
+    let told : are_told (outline_pattern c.args.pattern) ≡ true = cc in
+    found_plain (outline_pattern c.args.pattern) _ c.args.is_backward text told c.in_ok-finder.ensures
 
 pub set_aside-requires : goal.set_aside-requires
 set_aside-requires c =
-    let far : are_told (outlined c.args.pattern) ≡ false = cc in
+    let far : are_told (outline_pattern c.args.pattern) ≡ false = cc in
     record {
       bare = c.requires.bare;
-      small = omega (arith, far_steps (outlined c.args.pattern) far, c.requires.small);
+      small = omega (arith, far_steps (outline_pattern c.args.pattern) far, c.requires.small);
     }
 
 pub seekers_of-requires : goal.seekers_of-requires
@@ -48,7 +48,7 @@ of-requires-2 c =
 
 pub returns : goal.returns
 returns c = λ text.
-    let far : are_told (outlined c.args.pattern) ≡ false = cc in
+    let far : are_told (outline_pattern c.args.pattern) ≡ false = cc in
     let set = c.in_ok-last.ensures [] (no_asides _ c.new-asides.ensures.items) in
-    found_told (outlined c.args.pattern) c.args.is_backward text far c.requires.faced c.requires.bare _ _ _ _ set
+    found_told (outline_pattern c.args.pattern) c.args.is_backward text far c.requires.faced c.requires.bare _ _ _ _ set
     c.in_ok-seekers_of.ensures c.in_ok-of.ensures

@@ -1,7 +1,7 @@
 use Rattle.std.proofs.Common.{◌∙◌, ap, sym, refl, true≢false}
 use Rattle.strkw_ecma.specs.Front.{is_apart_behind}
 use Rattle.strkw_ecma.specs.Tree.{cat, look, start}
-use Rattle.strkw_ecma.specs.machine.Shape.{outlined}
+use Rattle.strkw_ecma.specs.machine.Shape.{outline_pattern}
 use Rattle.strkw_ecma.specs.declared.front.Front.{Front}
 use Rattle.strkw_ecma.proofs.Fronts.{cuts_apart, far, not_far}
 use Rattle.strkw_ecma.proofs.Shapes.{outlined-Ahead, outlined-Start}
@@ -10,16 +10,16 @@ use Rattle.strkw_ecma.proofs.front.Cut.with_front.Goals as goal
 pub returns-in_ok-push-in-Ahead : goal.returns-in_ok-push-in-Ahead
 returns-in_ok-push-in-Ahead c p old w =
     let s = c.args.self in
-    let body = outlined c.in-Ahead.body.value in
-    let whole = ap outlined c.in-Ahead.is ∙ outlined-Ahead c.in-Ahead.negated c.in-Ahead.body in
+    let body = outline_pattern c.in-Ahead.body.value in
+    let whole = ap outline_pattern c.in-Ahead.is ∙ outlined-Ahead c.in-Ahead.negated c.in-Ahead.body in
     let front : Front = record { negated = c.in-Ahead.negated; pattern = c.in_ok-pattern-in-Ahead.pattern } in
     rw whole
     (cuts_apart s s p c.in-Ahead.negated body front old c.args.fronts.now.items c.push.new.self.items w
     (sym (ap (is_apart_behind s.lead) whole) ∙ c.requires) refl refl refl
-    (c.in_ok-pattern-in-Ahead.ensures.pattern ∙ ap (λ p. cat p (outlined c.into_inner.result)) outlined-Start
-    ∙ ap (λ o. cat (look start) (outlined o)) c.into_inner.ensures)
+    (c.in_ok-pattern-in-Ahead.ensures.pattern ∙ ap (λ p. cat p (outline_pattern c.into_inner.result)) outlined-Start
+    ∙ ap (λ o. cat (look start) (outline_pattern o)) c.into_inner.ensures)
     c.in_ok-push-in-Ahead.ensures.items)
 
 pub returns-in_default : goal.returns-in_default
 returns-in_default c p old w =
-    absurd (true≢false (sym (far c.args.self.lead (outlined c.args.term) c.requires) ∙ not_far c.args.term c.in_default.not-Ahead))
+    absurd (true≢false (sym (far c.args.self.lead (outline_pattern c.args.term) c.requires) ∙ not_far c.args.term c.in_default.not-Ahead))

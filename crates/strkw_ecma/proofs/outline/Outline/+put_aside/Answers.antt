@@ -2,9 +2,9 @@ use Rattle.std.proofs.Common.{arith, ◌≡◌, ◌∙◌, true, false, refl, sy
 use Rattle.std.proofs.lemmas.Result.{IfOk-weaker}
 use Rattle.strkw_ecma.specs.Tree.{alt}
 use Rattle.strkw_ecma.specs.Patterns.{quantified_pattern}
-use Rattle.strkw_ecma.specs.machine.Shape.{is_never, outlined, quantifier_of}
+use Rattle.strkw_ecma.specs.machine.Shape.{is_never, outline_pattern, quantifier_of}
 use Rattle.strkw_ecma.specs.machine.Asides.{IsSmall}
-use Rattle.strkw_ecma.specs.machine.Marks.{unmarked}
+use Rattle.strkw_ecma.specs.machine.Marks.{is_unmarked}
 use Rattle.strkw_ecma.proofs.PutAside.{number_set}
 use Rattle.strkw_ecma.proofs.Putting.{turned_bare, turned_small, cat_bare, cat_small, alt_bare, alt_small, repeated_bare, repeated_small, behind_small}
 use Rattle.strkw_ecma.proofs.Putting.{ahead_small}
@@ -22,26 +22,26 @@ pub put_aside-put_both-requires : goal.put_aside-put_both-requires
 put_aside-put_both-requires t c = (
   omega (arith, c.decreases, weight_then c.args.self c.in-Then.first c.in-Then.second c.in-Then.is),
   record {
-    bare = turned_bare (outlined c.args.self) _ _ (ap outlined c.in-Then.is ∙ outlined-Then c.in-Then.first c.in-Then.second) c.requires.bare;
-    small = turned_small (outlined c.args.self) _ _ (ap outlined c.in-Then.is ∙ outlined-Then c.in-Then.first c.in-Then.second) c.requires.small;
+    bare = turned_bare (outline_pattern c.args.self) _ _ (ap outline_pattern c.in-Then.is ∙ outlined-Then c.in-Then.first c.in-Then.second) c.requires.bare;
+    small = turned_small (outline_pattern c.args.self) _ _ (ap outline_pattern c.in-Then.is ∙ outlined-Then c.in-Then.first c.in-Then.second) c.requires.small;
   },
 )
 
 pub put_aside-put_both-requires-else-is_backward : goal.put_aside-put_both-requires-else-is_backward
 put_aside-put_both-requires-else-is_backward t c =
-    let shape = ap outlined c.in-Then.is ∙ outlined-Then c.in-Then.first c.in-Then.second in (
+    let shape = ap outline_pattern c.in-Then.is ∙ outlined-Then c.in-Then.first c.in-Then.second in (
       omega (arith, c.decreases, weight_then c.args.self c.in-Then.first c.in-Then.second c.in-Then.is),
-      record { bare = sym (ap unmarked shape) ∙ c.requires.bare; small = subst IsSmall shape c.requires.small },
+      record { bare = sym (ap is_unmarked shape) ∙ c.requires.bare; small = subst IsSmall shape c.requires.small },
     )
 
 pub put_aside-put_aside-requires : goal.put_aside-put_aside-requires
 put_aside-put_aside-requires t c = (
   omega (arith, c.decreases, weight_or c.args.self c.in-Or.one c.in-Or.other c.in-Or.is, ap weight c.into_inner.ensures),
   record {
-    bare = ap (λ o. unmarked (outlined o)) c.into_inner.ensures
-        ∙ (alt_bare (outlined c.args.self) _ _ (ap outlined c.in-Or.is ∙ outlined-Or c.in-Or.one c.in-Or.other) c.requires.bare).0;
-    small = subst (λ o. IsSmall (outlined o)) (sym c.into_inner.ensures)
-        (alt_small (outlined c.args.self) _ _ (ap outlined c.in-Or.is ∙ outlined-Or c.in-Or.one c.in-Or.other) c.requires.small).0;
+    bare = ap (λ o. is_unmarked (outline_pattern o)) c.into_inner.ensures
+        ∙ (alt_bare (outline_pattern c.args.self) _ _ (ap outline_pattern c.in-Or.is ∙ outlined-Or c.in-Or.one c.in-Or.other) c.requires.bare).0;
+    small = subst (λ o. IsSmall (outline_pattern o)) (sym c.into_inner.ensures)
+        (alt_small (outline_pattern c.args.self) _ _ (ap outline_pattern c.in-Or.is ∙ outlined-Or c.in-Or.one c.in-Or.other) c.requires.small).0;
   },
 )
 
@@ -49,10 +49,10 @@ pub put_aside-put_aside-requires-in-Or : goal.put_aside-put_aside-requires-in-Or
 put_aside-put_aside-requires-in-Or t c = (
   omega (arith, c.decreases, weight_or c.args.self c.in-Or.one c.in-Or.other c.in-Or.is, ap weight c.into_inner-in-Or.ensures),
   record {
-    bare = ap (λ o. unmarked (outlined o)) c.into_inner-in-Or.ensures
-        ∙ (alt_bare (outlined c.args.self) _ _ (ap outlined c.in-Or.is ∙ outlined-Or c.in-Or.one c.in-Or.other) c.requires.bare).1;
-    small = subst (λ o. IsSmall (outlined o)) (sym c.into_inner-in-Or.ensures)
-        (alt_small (outlined c.args.self) _ _ (ap outlined c.in-Or.is ∙ outlined-Or c.in-Or.one c.in-Or.other) c.requires.small).1;
+    bare = ap (λ o. is_unmarked (outline_pattern o)) c.into_inner-in-Or.ensures
+        ∙ (alt_bare (outline_pattern c.args.self) _ _ (ap outline_pattern c.in-Or.is ∙ outlined-Or c.in-Or.one c.in-Or.other) c.requires.bare).1;
+    small = subst (λ o. IsSmall (outline_pattern o)) (sym c.into_inner-in-Or.ensures)
+        (alt_small (outline_pattern c.args.self) _ _ (ap outline_pattern c.in-Or.is ∙ outlined-Or c.in-Or.one c.in-Or.other) c.requires.small).1;
   },
 )
 
@@ -63,11 +63,13 @@ put_aside-put_aside-requires-in-Repeated t c =
     let less = weight_repeated c.args.self c.in-Repeated.quantifier c.in-Repeated.body c.in-Repeated.is in (
       omega (arith, c.decreases, less, ap weight c.into_inner-in-Repeated.ensures),
       record {
-        bare = ap (λ o. unmarked (outlined o)) c.into_inner-in-Repeated.ensures
-            ∙ repeated_bare times (outlined c.args.self) _ (ap outlined c.in-Repeated.is ∙ outlined-Repeated c.in-Repeated.quantifier c.in-Repeated.body) some
+        bare = ap (λ o. is_unmarked (outline_pattern o)) c.into_inner-in-Repeated.ensures
+            ∙ repeated_bare times (outline_pattern c.args.self) _
+            (ap outline_pattern c.in-Repeated.is ∙ outlined-Repeated c.in-Repeated.quantifier c.in-Repeated.body) some
             c.requires.bare;
-        small = subst (λ o. IsSmall (outlined o)) (sym c.into_inner-in-Repeated.ensures)
-            (repeated_small times (outlined c.args.self) _ (ap outlined c.in-Repeated.is ∙ outlined-Repeated c.in-Repeated.quantifier c.in-Repeated.body) some
+        small = subst (λ o. IsSmall (outline_pattern o)) (sym c.into_inner-in-Repeated.ensures)
+            (repeated_small times (outline_pattern c.args.self) _
+            (ap outline_pattern c.in-Repeated.is ∙ outlined-Repeated c.in-Repeated.quantifier c.in-Repeated.body) some
             c.requires.small);
       },
     )
@@ -76,10 +78,11 @@ pub put_aside-put_look-requires : goal.put_aside-put_look-requires
 put_aside-put_look-requires t c = (
   omega (arith, c.decreases, weight_behind c.args.self c.in-Behind.negated c.in-Behind.body c.in-Behind.is, ap weight c.into_inner-body.ensures),
   record {
-    bare = ap (λ o. unmarked (outlined o)) c.into_inner-body.ensures
-        ∙ sym (ap unmarked (ap outlined c.in-Behind.is ∙ outlined-Behind c.in-Behind.negated c.in-Behind.body)) ∙ c.requires.bare;
-    small = subst (λ o. IsSmall (outlined o)) (sym c.into_inner-body.ensures)
-        (behind_small c.in-Behind.negated (outlined c.args.self) _ (ap outlined c.in-Behind.is ∙ outlined-Behind c.in-Behind.negated c.in-Behind.body)
+    bare = ap (λ o. is_unmarked (outline_pattern o)) c.into_inner-body.ensures
+        ∙ sym (ap is_unmarked (ap outline_pattern c.in-Behind.is ∙ outlined-Behind c.in-Behind.negated c.in-Behind.body)) ∙ c.requires.bare;
+    small = subst (λ o. IsSmall (outline_pattern o)) (sym c.into_inner-body.ensures)
+        (behind_small c.in-Behind.negated (outline_pattern c.args.self) _
+        (ap outline_pattern c.in-Behind.is ∙ outlined-Behind c.in-Behind.negated c.in-Behind.body)
         c.requires.small);
   },
 )
@@ -88,10 +91,10 @@ pub put_aside-put_look-requires-in-Ahead : goal.put_aside-put_look-requires-in-A
 put_aside-put_look-requires-in-Ahead t c = (
   omega (arith, c.decreases, weight_ahead c.args.self c.in-Ahead.negated c.in-Ahead.body c.in-Ahead.is, ap weight c.into_inner-body-in-Ahead.ensures),
   record {
-    bare = ap (λ o. unmarked (outlined o)) c.into_inner-body-in-Ahead.ensures
-        ∙ sym (ap unmarked (ap outlined c.in-Ahead.is ∙ outlined-Ahead c.in-Ahead.negated c.in-Ahead.body)) ∙ c.requires.bare;
-    small = subst (λ o. IsSmall (outlined o)) (sym c.into_inner-body-in-Ahead.ensures)
-        (ahead_small c.in-Ahead.negated (outlined c.args.self) _ (ap outlined c.in-Ahead.is ∙ outlined-Ahead c.in-Ahead.negated c.in-Ahead.body)
+    bare = ap (λ o. is_unmarked (outline_pattern o)) c.into_inner-body-in-Ahead.ensures
+        ∙ sym (ap is_unmarked (ap outline_pattern c.in-Ahead.is ∙ outlined-Ahead c.in-Ahead.negated c.in-Ahead.body)) ∙ c.requires.bare;
+    small = subst (λ o. IsSmall (outline_pattern o)) (sym c.into_inner-body-in-Ahead.ensures)
+        (ahead_small c.in-Ahead.negated (outline_pattern c.args.self) _ (ap outline_pattern c.in-Ahead.is ∙ outlined-Ahead c.in-Ahead.negated c.in-Ahead.body)
         c.requires.small);
   },
 )
@@ -100,10 +103,10 @@ pub put_both-put_aside-requires : goal.put_both-put_aside-requires
 put_both-put_aside-requires t c = (
   omega (arith, c.decreases, ap weight c.into_inner.ensures),
   record {
-    bare = ap (λ o. unmarked (outlined o)) c.into_inner.ensures
-        ∙ (cat_bare _ (outlined c.args.first.value) (outlined c.args.second.value) refl c.requires.bare).0;
-    small = subst (λ o. IsSmall (outlined o)) (sym c.into_inner.ensures)
-        (cat_small _ (outlined c.args.first.value) (outlined c.args.second.value) refl c.requires.small).0;
+    bare = ap (λ o. is_unmarked (outline_pattern o)) c.into_inner.ensures
+        ∙ (cat_bare _ (outline_pattern c.args.first.value) (outline_pattern c.args.second.value) refl c.requires.bare).0;
+    small = subst (λ o. IsSmall (outline_pattern o)) (sym c.into_inner.ensures)
+        (cat_small _ (outline_pattern c.args.first.value) (outline_pattern c.args.second.value) refl c.requires.small).0;
   },
 )
 
@@ -111,36 +114,36 @@ pub put_both-put_aside-requires-2 : goal.put_both-put_aside-requires-2
 put_both-put_aside-requires-2 t c = (
   omega (arith, c.decreases, ap weight c.into_inner-2.ensures),
   record {
-    bare = ap (λ o. unmarked (outlined o)) c.into_inner-2.ensures
-        ∙ (cat_bare _ (outlined c.args.first.value) (outlined c.args.second.value) refl c.requires.bare).1;
-    small = subst (λ o. IsSmall (outlined o)) (sym c.into_inner-2.ensures)
-        (cat_small _ (outlined c.args.first.value) (outlined c.args.second.value) refl c.requires.small).1;
+    bare = ap (λ o. is_unmarked (outline_pattern o)) c.into_inner-2.ensures
+        ∙ (cat_bare _ (outline_pattern c.args.first.value) (outline_pattern c.args.second.value) refl c.requires.bare).1;
+    small = subst (λ o. IsSmall (outline_pattern o)) (sym c.into_inner-2.ensures)
+        (cat_small _ (outline_pattern c.args.first.value) (outline_pattern c.args.second.value) refl c.requires.small).1;
   },
 )
 
 -- what is left, arm by arm
 pub put_aside-returns-in-Start : goal.put_aside-returns-in-Start
 put_aside-returns-in-Start t c = λ fs are.
-    start_put c.args.is_backward fs _ are (outlined c.args.self) _ _ _ refl (ap outlined c.in-Start.is ∙ outlined-Start) c.edge.ensures
+    start_put c.args.is_backward fs _ are (outline_pattern c.args.self) _ _ _ refl (ap outline_pattern c.in-Start.is ∙ outlined-Start) c.edge.ensures
 
 pub put_aside-returns-in-End : goal.put_aside-returns-in-End
 put_aside-returns-in-End t c = λ fs are.
-    end_put c.args.is_backward fs _ are (outlined c.args.self) _ _ (ap outlined c.in-End.is ∙ outlined-End) c.edge-in-End.ensures
+    end_put c.args.is_backward fs _ are (outline_pattern c.args.self) _ _ (ap outline_pattern c.in-End.is ∙ outlined-End) c.edge-in-End.ensures
 
 pub put_aside-returns-in_ok-push-in-Class : goal.put_aside-returns-in_ok-push-in-Class
 put_aside-returns-in_ok-push-in-Class t c = λ fs are.
-    class_put c.args.is_backward fs _ are c.in-Class.negated c.in-Class.sets.items (outlined c.args.self) _ _ _
-    (ap outlined c.in-Class.is ∙ outlined-Class c.in-Class.negated c.in-Class.sets) (outlined-Class c.in-Class.negated c.in-Class.sets)
+    class_put c.args.is_backward fs _ are c.in-Class.negated c.in-Class.sets.items (outline_pattern c.args.self) _ _ _
+    (ap outline_pattern c.in-Class.is ∙ outlined-Class c.in-Class.negated c.in-Class.sets) (outlined-Class c.in-Class.negated c.in-Class.sets)
     c.in_ok-push-in-Class.ensures.items
 
 pub put_aside-returns-in_ok-other-in-Or : goal.put_aside-returns-in_ok-other-in-Or
 put_aside-returns-in_ok-other-in-Or t c =
-    let shape : outlined c.args.self ≡ alt (outlined c.into_inner.result) (outlined c.into_inner-in-Or.result) =
+    let shape : outline_pattern c.args.self ≡ alt (outline_pattern c.into_inner.result) (outline_pattern c.into_inner-in-Or.result) =
     cc (c.in-Or.is, c.into_inner.ensures, c.into_inner-in-Or.ensures, outlined-Or c.in-Or.one c.in-Or.other) in
     IfOk-weaker c.or.result _ _
     (λ o made fs are.
     let first = c.in_ok-one-in-Or.ensures fs are in
-    or_put c.args.is_backward fs (outlined c.args.self) _ _ _ _ _ _ _ _ _ _ shape first (c.in_ok-other-in-Or.ensures _ first.asides) made)
+    or_put c.args.is_backward fs (outline_pattern c.args.self) _ _ _ _ _ _ _ _ _ _ shape first (c.in_ok-other-in-Or.ensures _ first.asides) made)
     c.or.ensures.pattern
 
 pub put_aside-returns-then-is_never : goal.put_aside-returns-then-is_never
@@ -149,19 +152,19 @@ put_aside-returns-then-is_never t c =
     let never : is_never times ≡ true = cc in
     IfOk-weaker c.repeat.result _ _
     (λ o made fs are.
-    never_put c.args.is_backward fs _ are times (outlined c.args.self) _ _ _
-    (ap outlined c.in-Repeated.is ∙ outlined-Repeated c.in-Repeated.quantifier c.in-Repeated.body) never
+    never_put c.args.is_backward fs _ are times (outline_pattern c.args.self) _ _ _
+    (ap outline_pattern c.in-Repeated.is ∙ outlined-Repeated c.in-Repeated.quantifier c.in-Repeated.body) never
     (made ∙ ap (quantified_pattern times) outlined-Empty))
     c.repeat.ensures
 
 pub put_aside-returns-in_ok-add_copies-in-Repeated : goal.put_aside-returns-in_ok-add_copies-in-Repeated
 put_aside-returns-in_ok-add_copies-in-Repeated t c =
     let times = quantifier_of c.in-Repeated.quantifier in
-    let shape : outlined c.args.self ≡ quantified_pattern times (outlined c.into_inner-in-Repeated.result) =
+    let shape : outline_pattern c.args.self ≡ quantified_pattern times (outline_pattern c.into_inner-in-Repeated.result) =
     cc (c.in-Repeated.is, c.into_inner-in-Repeated.ensures, outlined-Repeated c.in-Repeated.quantifier c.in-Repeated.body) in
     IfOk-weaker c.repeat-in-Repeated.result _ _
     (λ o made fs are.
-    repeated_put c.args.is_backward fs times (outlined c.args.self) _ _ _ _ _ _ _ _ _ _ shape c.new-own.ensures.items
+    repeated_put c.args.is_backward fs times (outline_pattern c.args.self) _ _ _ _ _ _ _ _ _ _ shape c.new-own.ensures.items
     (c.in_ok-body-in-Repeated.ensures fs are) c.in_ok-add_copies-in-Repeated.ensures c.all_copies.ensures c.deref-in-Repeated.ensures.value made)
     c.repeat-in-Repeated.ensures
 
@@ -169,16 +172,17 @@ pub put_aside-returns-in-Behind : goal.put_aside-returns-in-Behind
 put_aside-returns-in-Behind t c =
     IfOk-weaker c.put_look.result _ _
     (λ o puts fs are.
-    behind_found c.args.is_backward fs c.in-Behind.negated (outlined c.args.self) _ _ _ _ _ _
-    (ap outlined c.in-Behind.is ∙ outlined-Behind c.in-Behind.negated c.in-Behind.body) (ap outlined c.into_inner-body.ensures) (puts fs are))
+    behind_found c.args.is_backward fs c.in-Behind.negated (outline_pattern c.args.self) _ _ _ _ _ _
+    (ap outline_pattern c.in-Behind.is ∙ outlined-Behind c.in-Behind.negated c.in-Behind.body) (ap outline_pattern c.into_inner-body.ensures) (puts fs are))
     c.put_look.ensures
 
 pub put_aside-returns-in-Ahead : goal.put_aside-returns-in-Ahead
 put_aside-returns-in-Ahead t c =
     IfOk-weaker c.put_look-in-Ahead.result _ _
     (λ o puts fs are.
-    ahead_found c.args.is_backward fs c.in-Ahead.negated _ (outlined c.args.self) _ _ _ _ _ _ refl
-    (ap outlined c.in-Ahead.is ∙ outlined-Ahead c.in-Ahead.negated c.in-Ahead.body) (ap outlined c.into_inner-body-in-Ahead.ensures) (puts fs are))
+    ahead_found c.args.is_backward fs c.in-Ahead.negated _ (outline_pattern c.args.self) _ _ _ _ _ _ refl
+    (ap outline_pattern c.in-Ahead.is ∙ outlined-Ahead c.in-Ahead.negated c.in-Ahead.body) (ap outline_pattern c.into_inner-body-in-Ahead.ensures)
+    (puts fs are))
     c.put_look-in-Ahead.ensures
 
 pub put_aside-returns-in_default : goal.put_aside-returns-in_default
@@ -191,7 +195,7 @@ put_both-returns t c =
     IfOk-weaker c.then.result _ _
     (λ o made fs are.
     let first = c.in_ok-first.ensures fs are in
-    then_put c.args.is_backward fs _ _ _ _ _ _ _ _ _ _ _ _ (ap outlined c.into_inner.ensures) (ap outlined c.into_inner-2.ensures) first
+    then_put c.args.is_backward fs _ _ _ _ _ _ _ _ _ _ _ _ (ap outline_pattern c.into_inner.ensures) (ap outline_pattern c.into_inner-2.ensures) first
     (c.in_ok-second.ensures _ first.asides) made)
     c.then.ensures.pattern
 
@@ -199,24 +203,24 @@ pub put_look-returns-in_ok-push : goal.put_look-returns-in_ok-push
 put_look-returns-in_ok-push t c =
     IfOk-weaker c.slot.result _ _
     (λ o made fs are.
-    mark_put c.args.is_backward fs _ c.args.negated _ (outlined c.args.self) _ _ _ _ _ c.if-is_ahead.true refl (c.in_ok-number.ensures fs are)
+    mark_put c.args.is_backward fs _ c.args.negated _ (outline_pattern c.args.self) _ _ _ _ _ c.if-is_ahead.true refl (c.in_ok-number.ensures fs are)
     c.in_ok-push.ensures.items made)
     c.slot.ensures
 
 pub put_look-returns-in_ok-body : goal.put_look-returns-in_ok-body
 put_look-returns-in_ok-body t c =
-    IfOk-weaker c.behind.result _ _
+    IfOk-weaker c.into_lookbehind.result _ _
     (λ o made fs are.
-    look_put c.args.is_backward fs _ c.args.negated (outlined c.args.self) _ _ _ _ _ c.if-is_ahead.false (c.in_ok-body.ensures fs are) made)
-    c.behind.ensures
+    look_put c.args.is_backward fs _ c.args.negated (outline_pattern c.args.self) _ _ _ _ _ c.if-is_ahead.false (c.in_ok-body.ensures fs are) made)
+    c.into_lookbehind.ensures
 
 pub set_aside-returns : goal.set_aside-returns
 set_aside-returns t c = λ fs are.
-    fresh_set c.args.is_backward fs (outlined c.args.self) _ _ _ _ _ c.new-told.ensures.items (c.in_ok-pattern.ensures fs are) c.requires.bare
+    fresh_set c.args.is_backward fs (outline_pattern c.args.self) _ _ _ _ _ c.new-told.ensures.items (c.in_ok-pattern.ensures fs are) c.requires.bare
     c.requires.small refl refl refl
 
 pub add_aside-returns : goal.add_aside-returns
 add_aside-returns t c = λ fs are.
-    number_set c.args.is_backward fs (outlined c.args.self) _ _ _ _ (c.in_ok-aside.ensures fs are)
+    number_set c.args.is_backward fs (outline_pattern c.args.self) _ _ _ _ (c.in_ok-aside.ensures fs are)
     (c.len-number.ensures ∙ c.set_aside.new.asides.ok.0 ∙ sym (quests_count c.set_aside.new.asides.items))
     (ap quests c.in_ok-push.ensures.items ∙ quests_append c.set_aside.new.asides.items _)

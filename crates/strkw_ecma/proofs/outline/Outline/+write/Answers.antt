@@ -1,7 +1,7 @@
 use Rattle.std.proofs.Common.{◌≡◌, sym, ap, ◌∙◌, arith}
 use Rattle.std.proofs.lemmas.Result.{IfOk-weaker}
 use Rattle.strkw_ecma.specs.Program.{is_empty, program, alternatives}
-use Rattle.strkw_ecma.specs.machine.Shape.{outlined}
+use Rattle.strkw_ecma.specs.machine.Shape.{outline_pattern}
 use Rattle.strkw_ecma.proofs.Written.{both_written}
 use Rattle.strkw_ecma.proofs.Shapes.{shapes, outlined-Then, outlined-Or, outlined-Behind, outlined-Ahead}
 use Rattle.strkw_ecma.proofs.Copies.{repeated_beside, alone_beside, repeats_program, program_choice}
@@ -15,7 +15,7 @@ write-returns-in_ok-write-in-Then t c =
 
 pub write-returns-in_ok-write-in-Or : goal.write-returns-in_ok-write-in-Or
 write-returns-in_ok-write-in-Or t c =
-    let something = ap (λ o. is_empty (outlined o)) (sym c.deref-in-Or.ensures) ∙ sym c.is_nothing.ensures
+    let something = ap (λ o. is_empty (outline_pattern o)) (sym c.deref-in-Or.ensures) ∙ sym c.is_nothing.ensures
     ∙ c.if-is_nothing.false in
     rw (c.in-Or.is, outlined-Or, program_choice _ _ something)
     (rw (← c.deref-else-is_nothing.ensures, ← c.deref-else-is_nothing-2.ensures)
@@ -53,7 +53,7 @@ write_beside-returns-in_default t c =
 
 pub write_beside-returns-in-ZeroOrMore : goal.write_beside-returns-in-ZeroOrMore
 write_beside-returns-in-ZeroOrMore t c =
-    let same : alternatives (outlined c.args.self.now) ≡ program (outlined c.args.self.now) =
+    let same : alternatives (outline_pattern c.args.self.now) ≡ program (outline_pattern c.args.self.now) =
     grind (arith, shapes, repeated_beside) in
     rw same c.write-in-ZeroOrMore.ensures
 

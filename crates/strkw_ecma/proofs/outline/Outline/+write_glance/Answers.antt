@@ -2,7 +2,7 @@ use Rattle.std.proofs.Common.{◌≡◌, ◌∙◌, sym, ap, subst}
 use Rattle.std.proofs.lemmas.Result.{IfOk-weaker}
 use Rattle.strkw_ecma.specs.Patterns.{quantified_pattern}
 use Rattle.strkw_ecma.specs.Program.{glance}
-use Rattle.strkw_ecma.specs.machine.Shape.{outlined, quantifier_of}
+use Rattle.strkw_ecma.specs.machine.Shape.{outline_pattern, quantifier_of}
 use Rattle.strkw_ecma.specs.machine.Machine.{Writes}
 use Rattle.strkw_ecma.proofs.Written.{nothing_written, both_written}
 use Rattle.strkw_ecma.proofs.Shapes.{outlined-Or, outlined-Repeated, outlined-Ahead, repeated_glance}
@@ -27,9 +27,9 @@ returns-in_ok-write_glance-in-ZeroOrOne t c =
 
 pub returns-in_default : goal.returns-in_default
 returns-in_default t c =
-    let p = outlined c.in-Repeated.body.value in
-    let shape : outlined c.args.self.now ≡ quantified_pattern (quantifier_of c.in-Repeated.quantifier) p =
-    ap outlined c.in-Repeated.is ∙ outlined-Repeated c.in-Repeated.quantifier c.in-Repeated.body in
+    let p = outline_pattern c.in-Repeated.body.value in
+    let shape : outline_pattern c.args.self.now ≡ quantified_pattern (quantifier_of c.in-Repeated.quantifier) p =
+    ap outline_pattern c.in-Repeated.is ∙ outlined-Repeated c.in-Repeated.quantifier c.in-Repeated.body in
     subst (Writes c.args.code.now c.args.code.now)
     (sym (ap glance shape ∙ repeated_glance c.in-Repeated.quantifier p c.in_default.not-ZeroOrOne)) (nothing_written c.args.code.now)
 

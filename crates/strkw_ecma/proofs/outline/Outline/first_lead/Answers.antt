@@ -1,11 +1,11 @@
 use Rattle.std.proofs.Common.{◌∙◌, ap, sym}
-use Rattle.strkw_ecma.specs.machine.Shape.{outlined, quantifier_of}
+use Rattle.strkw_ecma.specs.machine.Shape.{outline_pattern, quantifier_of}
 use Rattle.strkw_ecma.proofs.Fronts.{lead_of_whole}
 use Rattle.strkw_ecma.proofs.Shapes.{outlined-Repeated}
 use Rattle.strkw_ecma.proofs.outline.Outline.first_lead.Goals as goal
 
 pub returns-else-is_nothing : goal.returns-else-is_nothing
 returns-else-is_nothing c =
-    lead_of_whole (quantifier_of c.in-Repeated.field-0) (outlined c.in-Repeated.field-1.value) (outlined c.args.self.now)
-    (ap outlined c.in-Repeated.is ∙ outlined-Repeated c.in-Repeated.field-0 c.in-Repeated.field-1)
+    lead_of_whole (quantifier_of c.in-Repeated.field-0) (outline_pattern c.in-Repeated.field-1.value) (outline_pattern c.args.self.now)
+    (ap outline_pattern c.in-Repeated.is ∙ outlined-Repeated c.in-Repeated.field-0 c.in-Repeated.field-1)
     (sym c.is_nothing.ensures ∙ c.if-is_nothing.false)

@@ -1,8 +1,8 @@
 use Rattle.std.proofs.Common.{◌∙◌, sym, ap}
 use Rattle.strkw_ecma.specs.Program.{is_class}
-use Rattle.strkw_ecma.specs.machine.Sizes.{capped, spread_if}
+use Rattle.strkw_ecma.specs.machine.Sizes.{cap_steps, spread_if}
 use Rattle.strkw_ecma.specs.Size.{steps}
-use Rattle.strkw_ecma.specs.machine.Shape.{outlined}
+use Rattle.strkw_ecma.specs.machine.Shape.{outline_pattern}
 use Rattle.strkw_ecma.proofs.Counterparts.{star_class, plus_class}
 use Rattle.strkw_ecma.proofs.Sizes.{more_capped, star_steps, plus_steps}
 use Rattle.strkw_ecma.proofs.Widths.{same_class_if}
@@ -10,26 +10,26 @@ use Rattle.strkw_ecma.proofs.outline.Outline.loop_steps.Goals as goal
 
 pub returns-in-Some-clause-star : goal.returns-in-Some-clause-star
 returns-in-Some-clause-star c =
-    let p = outlined c.args.self.now in
+    let p = outline_pattern c.args.self.now in
     let q = spread_if c.args.is_spread p in
-    c.requires ∙ ap capped (sym (star_class q (same_class_if c.args.is_spread p ∙ ap is_class c.in-Some.ensures)))
+    c.requires ∙ ap cap_steps (sym (star_class q (same_class_if c.args.is_spread p ∙ ap is_class c.in-Some.ensures)))
 
 pub returns-in-Some-clause-plus : goal.returns-in-Some-clause-plus
 returns-in-Some-clause-plus c =
-    let p = outlined c.args.self.now in
+    let p = outline_pattern c.args.self.now in
     let q = spread_if c.args.is_spread p in
-    c.requires ∙ ap capped (sym (plus_class q (same_class_if c.args.is_spread p ∙ ap is_class c.in-Some.ensures)))
+    c.requires ∙ ap cap_steps (sym (plus_class q (same_class_if c.args.is_spread p ∙ ap is_class c.in-Some.ensures)))
 
 pub returns-in-None-clause-star : goal.returns-in-None-clause-star
 returns-in-None-clause-star c =
-    let p = outlined c.args.self.now in
+    let p = outline_pattern c.args.self.now in
     let q = spread_if c.args.is_spread p in
-    c.together.ensures ∙ more_capped (steps q) 2 c.args.own c.requires
-    ∙ ap capped (sym (star_steps q (same_class_if c.args.is_spread p ∙ c.in-None.ensures)))
+    c.sum_of.ensures ∙ more_capped (steps q) 2 c.args.own c.requires
+    ∙ ap cap_steps (sym (star_steps q (same_class_if c.args.is_spread p ∙ c.in-None.ensures)))
 
 pub returns-in-None-clause-plus : goal.returns-in-None-clause-plus
 returns-in-None-clause-plus c =
-    let p = outlined c.args.self.now in
+    let p = outline_pattern c.args.self.now in
     let q = spread_if c.args.is_spread p in
-    c.together.ensures ∙ more_capped (steps q) 2 c.args.own c.requires
-    ∙ ap capped (sym (plus_steps q (same_class_if c.args.is_spread p ∙ c.in-None.ensures)))
+    c.sum_of.ensures ∙ more_capped (steps q) 2 c.args.own c.requires
+    ∙ ap cap_steps (sym (plus_steps q (same_class_if c.args.is_spread p ∙ c.in-None.ensures)))

@@ -1,9 +1,9 @@
 use Rattle.std.proofs.Common.{◌∙◌, sym, ap}
 use Rattle.strkw_ecma.specs.Tree.{empty}
 use Rattle.strkw_ecma.specs.Program.{is_class}
-use Rattle.strkw_ecma.specs.machine.Sizes.{capped, spread_if}
+use Rattle.strkw_ecma.specs.machine.Sizes.{cap_steps, spread_if}
 use Rattle.strkw_ecma.specs.Size.{steps}
-use Rattle.strkw_ecma.specs.machine.Shape.{outlined}
+use Rattle.strkw_ecma.specs.machine.Shape.{outline_pattern}
 use Rattle.strkw_ecma.proofs.Counterparts.{option_class}
 use Rattle.strkw_ecma.proofs.Sizes.{more_capped, option_steps}
 use Rattle.strkw_ecma.proofs.Widths.{same_class_if}
@@ -11,13 +11,13 @@ use Rattle.strkw_ecma.proofs.outline.Outline.option_steps.Goals as goal
 
 pub returns-in-Some : goal.returns-in-Some
 returns-in-Some c =
-    let p = outlined c.args.self.now in
+    let p = outline_pattern c.args.self.now in
     let q = spread_if c.args.is_spread p in
-    c.requires ∙ ap capped (sym (option_class empty q (same_class_if c.args.is_spread p ∙ ap is_class c.in-Some.ensures)))
+    c.requires ∙ ap cap_steps (sym (option_class empty q (same_class_if c.args.is_spread p ∙ ap is_class c.in-Some.ensures)))
 
 pub returns-in-None : goal.returns-in-None
 returns-in-None c =
-    let p = outlined c.args.self.now in
+    let p = outline_pattern c.args.self.now in
     let q = spread_if c.args.is_spread p in
-    c.together.ensures ∙ more_capped (steps q) 3 c.args.own c.requires
-    ∙ ap capped (sym (option_steps q (same_class_if c.args.is_spread p ∙ c.in-None.ensures)))
+    c.sum_of.ensures ∙ more_capped (steps q) 3 c.args.own c.requires
+    ∙ ap cap_steps (sym (option_steps q (same_class_if c.args.is_spread p ∙ c.in-None.ensures)))

@@ -2,7 +2,7 @@ use Rattle.std.proofs.Common.{◌≡◌, ◌≤◌, ◌<◌, ◌+◌, ◌-◌, �
 use Rattle.std.proofs.Common.{◌∷◌, length, drop, take, drop-cons, get_or, slice_get, sym, ap, ◌∙◌, arith}
 use Rattle.strkw_ecma.specs.declared.code.Instruction.TheVariants.{Read, Turn}
 use Rattle.strkw_ecma.specs.Program.{Instruction, read_count, has_loop}
-use Rattle.strkw_ecma.specs.machine.Shape.{turned, reading, peeking}
+use Rattle.strkw_ecma.specs.machine.Shape.{turn_instruction, read_instruction, peek_instruction}
 use Rattle.strkw_ecma.specs.machine.Walk.{Asked, asked}
 use Rattle.strkw_ecma.specs.machine.Machine.{program_of}
 use Rattle.strkw_ecma.proofs.Machines.{there, from_class, from_peek, from_turn, from_end, one_read, none_peeked}
@@ -34,11 +34,11 @@ bounds-instructions-place c =
     let end = ap length c.as_slice-instructions.ensures.value in
     omega (arith, end, c.back.invariant.within, c.back-test.true)
 
-pub back_over-ahead-requires-clause-around : goal.back_over-ahead-requires-clause-around
-back_over-ahead-requires-clause-around c = omega (arith, c.args.self.now.few, c.back.invariant.around, c.back-test.true)
+pub step_back-ahead-requires-clause-around : goal.step_back-ahead-requires-clause-around
+step_back-ahead-requires-clause-around c = omega (arith, c.args.self.now.few, c.back.invariant.around, c.back-test.true)
 
-pub back_over-ahead-requires-clause-again : goal.back_over-ahead-requires-clause-again
-back_over-ahead-requires-clause-again c = omega (arith, c.args.self.now.few, c.back.invariant.again, c.back-test.true)
+pub step_back-ahead-requires-clause-again : goal.step_back-ahead-requires-clause-again
+step_back-ahead-requires-clause-again c = omega (arith, c.args.self.now.few, c.back.invariant.again, c.back-test.true)
 
 pub overflow_sub-at : goal.overflow_sub-at
 overflow_sub-at c =
@@ -62,7 +62,7 @@ back-preserved-in-Read c =
     let next : suc (c.back.place - 1) ≡ c.back.place = omega (arith, c.back-test.true) in
     let h : c.back.place - 1 < length p.code.instructions.items = omega (arith, c.back.invariant.within, c.back-test.true) in
     let rest : drop (suc (c.back.place - 1)) (program_of p) ≡ drop c.back.place (program_of p) = ap (λ (k : ℕ). drop k (program_of p)) next in
-    let class_there = reading c.in-Read.again c.in-Read.optional (slice_get p.code.classes.items c.in-Read.class) in
+    let class_there = read_instruction c.in-Read.again c.in-Read.optional (slice_get p.code.classes.items c.in-Read.class) in
     let from : drop (c.back.place - 1) (program_of p) ≡ class_there ∷ drop c.back.place (program_of p) =
     from_class p (c.back.place - 1) h c.in-Read.class c.in-Read.again c.in-Read.optional (there _ _ _ _ c.as_slice-instructions.ensures.value c.in-Read.is)
     ∙ ap (λ (is : List Instruction). class_there ∷ is) rest in
@@ -87,7 +87,7 @@ back-preserved-in-Read c =
       asked =
           asked_reading c.args.last c.args.next (slice_get p.code.classes.items c.in-Read.class) c.in-Read.again c.in-Read.optional _
           (drop c.back.place (program_of p)) (drop c.back.at c.args.marks.now) _ _ c.back.invariant.asked
-          (λ n rs. c.back_over_class-ahead.ensures c.args.last c.args.next c.in-Read.again n rs c.back.walk)
+          (λ n rs. c.step_back_over_class-ahead.ensures c.args.last c.args.next c.in-Read.again n rs c.back.walk)
           ∙ sym (ap (λ (ms : List Bool). asked c.args.last c.args.next (class_there ∷ drop c.back.place (program_of p)) ms) marks)
           ∙ sym (ap (λ (is : List Instruction). asked c.args.last c.args.next is (drop (c.back.at - 1) c.args.marks.now)) from);
       around = omega (arith, c.back.invariant.around, c.back-test.true);
@@ -108,7 +108,7 @@ back-preserved-in-Peek c =
     let next : suc (c.back.place - 1) ≡ c.back.place = omega (arith, c.back-test.true) in
     let h : c.back.place - 1 < length p.code.instructions.items = omega (arith, c.back.invariant.within, c.back-test.true) in
     let here = there _ _ _ _ c.as_slice-instructions.ensures.value c.in-Peek.is in
-    let class_there = peeking (slice_get p.code.classes.items c.in-Peek.class) in
+    let class_there = peek_instruction (slice_get p.code.classes.items c.in-Peek.class) in
     let from : drop (c.back.place - 1) (program_of p) ≡ class_there ∷ drop c.back.place (program_of p) =
     from_peek p (c.back.place - 1) h c.in-Peek.class here ∙ ap (λ (k : ℕ). class_there ∷ drop k (program_of p)) next in
     let there_is : c.in-Peek.class < length p.code.classes.items =
@@ -120,7 +120,7 @@ back-preserved-in-Peek c =
       asked =
           asked_peeking c.args.last c.args.next (slice_get p.code.classes.items c.in-Peek.class) (get_or c.args.reads.now c.in-Peek.class false)
           (drop c.back.place (program_of p)) (drop c.back.at c.args.marks.now) _ _ c.back.invariant.asked (c.requires.reads c.in-Peek.class there_is)
-          (λ n rs m r. c.back_over_peek-ahead.ensures c.args.last c.args.next n rs m c.back.walk r)
+          (λ n rs m r. c.step_back_over_peek-ahead.ensures c.args.last c.args.next n rs m c.back.walk r)
           ∙ sym (ap (λ (is : List Instruction). asked c.args.last c.args.next is (drop c.back.at c.args.marks.now)) from);
       around = omega (arith, c.back.invariant.around, c.back-test.true);
       again = omega (arith, c.back.invariant.again, c.back-test.true);
@@ -133,19 +133,19 @@ back-preserved c =
     let end = ap length c.as_slice-instructions.ensures.value in
     let next : suc (c.back.place - 1) ≡ c.back.place = omega (arith, c.back-test.true) in
     let here : get_or items (c.back.place - 1) (Read 0 false false) ≡ Turn c.in-Turn.turn = there _ _ _ _ c.as_slice-instructions.ensures.value c.in-Turn.is in
-    let from : drop (c.back.place - 1) (program_of p) ≡ turned c.in-Turn.turn ∷ drop c.back.place (program_of p) =
+    let from : drop (c.back.place - 1) (program_of p) ≡ turn_instruction c.in-Turn.turn ∷ drop c.back.place (program_of p) =
     from_turn p (c.back.place - 1) (omega (arith, c.back.invariant.within, c.back-test.true)) c.in-Turn.turn here
-    ∙ ap (λ (k : ℕ). turned c.in-Turn.turn ∷ drop k (program_of p)) next in
+    ∙ ap (λ (k : ℕ). turn_instruction c.in-Turn.turn ∷ drop k (program_of p)) next in
     record {
       within = omega (arith, c.back.invariant.within);
       counted = ap (λ (is : List Instruction). c.back.at + read_count is) from
           ∙ omega (arith, none_read c.in-Turn.turn (drop c.back.place (program_of p)), c.back.invariant.counted);
       asked =
           asked_turned c.args.last c.args.next c.in-Turn.turn (drop c.back.place (program_of p)) (drop c.back.at c.args.marks.now) _ _ c.back.invariant.asked
-          c.back_over-ahead.ensures.asked
+          c.step_back-ahead.ensures.asked
           ∙ sym (ap (λ (is : List Instruction). asked c.args.last c.args.next is (drop c.back.at c.args.marks.now)) from);
-      around = omega (arith, c.back.invariant.around, c.back_over-ahead.ensures.around, c.back-test.true);
-      again = omega (arith, c.back.invariant.again, c.back_over-ahead.ensures.again, c.back-test.true);
+      around = omega (arith, c.back.invariant.around, c.step_back-ahead.ensures.around, c.back-test.true);
+      again = omega (arith, c.back.invariant.again, c.step_back-ahead.ensures.again, c.back-test.true);
     }
 
 pub returns : goal.returns

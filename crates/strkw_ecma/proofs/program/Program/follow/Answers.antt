@@ -8,7 +8,7 @@ use Rattle.strkw_ecma.specs.declared.code.Turn.{Turn as CodeTurn}
 use Rattle.strkw_ecma.specs.declared.program.Program.{Program}
 use Rattle.strkw_ecma.specs.declared.walk.Walk.{Walk as CodeWalk}
 use Rattle.strkw_ecma.specs.Program.{Instruction, read, read_count}
-use Rattle.strkw_ecma.specs.machine.Shape.{turned, reading}
+use Rattle.strkw_ecma.specs.machine.Shape.{turn_instruction, read_instruction}
 use Rattle.strkw_ecma.specs.machine.Walk.{Walked, Following, over, followed}
 use Rattle.strkw_ecma.specs.machine.Marks.{classes}
 use Rattle.strkw_ecma.specs.machine.Machine.{pattern_of, program_of, class_reads, following_of}
@@ -77,8 +77,8 @@ overflow_add-at c =
     2600 (few_marks c.args.self.now) in
     omega (arith, few)
 
-pub over-enters-requires : goal.over-enters-requires
-over-enters-requires c =
+pub step_over-enters-requires : goal.step_over-enters-requires
+step_over-enters-requires c =
     let end = ap length c.deref-instruction-items.ensures.value in
     record { around = omega (arith, end, c.args.self.now.few, c.loop-instruction.invariant.around, c.loop-instruction-test.true) }
 
@@ -130,7 +130,7 @@ module _ (p : Program) (k at : ℕ) (within : k < length p.code.instructions.ite
 
   -- it is a turn
   pub turn_followed : (t : CodeTurn) (comes : Bool) (new : CodeWalk) → get_or p.code.instructions.items k (Read 0 false false) ≡ Turn t
-      → ((m : Bool) → following_of comes new ≡ over last next (turned t) m (following_of enters old))
+      → ((m : Bool) → following_of comes new ≡ over last next (turn_instruction t) m (following_of enters old))
       → all ≡ with_marks last next (take at marks) (followed last next (drop (k + 1) (program_of p)) (following_of comes new) (drop at marks))
   turn_followed t comes new here behind =
       rw next_place
@@ -162,7 +162,7 @@ module _ (p : Program) (k at : ℕ) (within : k < length p.code.instructions.ite
       (followed last next (drop (k + 1) (program_of p)) (following_of comes new) (drop (at + 1) (set marks at behind)))
   class_followed class again optional reads_it behind comes new here forwards reads_is behind_is marked =
       let rest = drop (suc k) (program_of p) in
-      let first = reading again optional (slice_get p.code.classes.items class) in
+      let first = read_instruction again optional (slice_get p.code.classes.items class) in
       let walk = followed last next rest (following_of comes new) (drop (suc at) marks) in
       rw (next_place, next_mark)
       (h
@@ -277,8 +277,8 @@ loop-instruction-preserved c =
             followed =
                 turn_followed p k at within c.args.last c.args.next c.loop-instruction.enters c.loop-instruction.walk _ c.loop-instruction.marks
                 c.loop-instruction.invariant.followed
-                w.in-Turn.turn w.over-enters.result w.over-enters.new.self here w.over-enters.ensures.following;
-            around = omega (arith, c.loop-instruction.invariant.around, w.over-enters.ensures.around);
+                w.in-Turn.turn w.step_over-enters.result w.step_over-enters.new.self here w.step_over-enters.ensures.following;
+            around = omega (arith, c.loop-instruction.invariant.around, w.step_over-enters.ensures.around);
           })
     ]
 

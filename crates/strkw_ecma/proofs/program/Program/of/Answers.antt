@@ -1,18 +1,18 @@
 use Rattle.std.proofs.Common.{◌≡◌, ◌≤◌, ◌++◌, List, length, take, sym, ap, ◌∙◌, arith}
 use Rattle.strkw_ecma.specs.Program.{Instruction, program, read_count, has_loop, asks_boundary}
-use Rattle.strkw_ecma.specs.machine.Shape.{outlined}
+use Rattle.strkw_ecma.specs.machine.Shape.{outline_pattern}
 use Rattle.strkw_ecma.specs.Size.{max_steps}
-use Rattle.strkw_ecma.specs.machine.Machine.{written}
+use Rattle.strkw_ecma.specs.machine.Machine.{instructions_of}
 use Rattle.strkw_ecma.proofs.Few.{few_instructions, reads_are_classes, boundary_is_asked}
 use Rattle.strkw_ecma.proofs.Written.{instruction_count}
 use Rattle.strkw_ecma.proofs.program.Program.of.Goals as goal
 
 pub invariant_of-result : goal.invariant_of-result
 invariant_of-result c =
-    let p = outlined c.args.outline in
+    let p = outline_pattern c.args.outline in
     let code = c.write.new.code in
     let writes = c.in_ok-write.ensures in
-    let right : written code ≡ program p =
+    let right : instructions_of code ≡ program p =
     writes.written_is c.new-code.ensures.within ∙ ap (λ (is : List Instruction). is ++ program p) c.new-code.ensures.nothing in
     let none : length c.new-code.result.instructions.items ≡ 0 =
     sym (instruction_count c.new-code.result.classes.items c.new-code.result.instructions.items) ∙ ap length c.new-code.ensures.nothing in

@@ -1,7 +1,7 @@
 use Rattle.std.proofs.Common.{◌≡◌, ◌≤◌, true, ℕ, Bool, List, length, Option, ap, ◌∙◌}
-use Rattle.strkw_ecma.specs.machine.Marks.{leaves, step, marked, classes}
+use Rattle.strkw_ecma.specs.machine.Marks.{leaves, step, mark_classes, classes}
 use Rattle.strkw_ecma.specs.Program.{Instruction, program}
-use Rattle.strkw_ecma.specs.machine.Walk.{Walked, asked, begun, followed, walked}
+use Rattle.strkw_ecma.specs.machine.Walk.{Walked, asked, start_following, followed, walked}
 use Rattle.strkw_ecma.specs.machine.Machine.{pattern_of, program_of}
 use Rattle.strkw_ecma.specs.declared.program.Program.{Program}
 use Rattle.strkw_ecma.proofs.Marked.{walk_steps}
@@ -10,21 +10,21 @@ use Rattle.strkw_ecma.proofs.program.Program.step_by.Goals as goal
 module _ (p : Program) (last next : Option ℕ) (marks again : List Bool) (known : again ≡ (asked last next (program_of p) marks).again)
     (fits : classes (pattern_of p) ≤ length marks) where
   -- the walk of the code is that of the pattern
-  walk_is : followed last next (program_of p) (begun again) marks ≡ walked last next (program (pattern_of p)) marks
+  walk_is : followed last next (program_of p) (start_following again) marks ≡ walked last next (program (pattern_of p)) marks
   walk_is =
-      ap (λ (bs : List Bool). followed last next (program_of p) (begun bs) marks) known
+      ap (λ (bs : List Bool). followed last next (program_of p) (start_following bs) marks) known
       ∙ ap (λ (is : List Instruction). walked last next is marks) p.right
 
   -- so its answer is that of the marked pattern
-  pub left_is : (answer : Bool) → answer ≡ (followed last next (program_of p) (begun again) marks).leaves
-      → answer ≡ leaves last next (marked marks (pattern_of p)) true
+  pub left_is : (answer : Bool) → answer ≡ (followed last next (program_of p) (start_following again) marks).leaves
+      → answer ≡ leaves last next (mark_classes marks (pattern_of p)) true
   left_is answer is = is ∙ ap (λ (w : Walked). w.leaves) walk_is ∙ (walk_steps last next (pattern_of p) marks fits).leaves_is
 
   -- and its marks are those after a step
-  pub marks_are : (behind : List Bool) → behind ≡ (followed last next (program_of p) (begun again) marks).marks
-      → marked behind (pattern_of p) ≡ step last next (marked marks (pattern_of p)) true
+  pub marks_are : (behind : List Bool) → behind ≡ (followed last next (program_of p) (start_following again) marks).marks
+      → mark_classes behind (pattern_of p) ≡ step last next (mark_classes marks (pattern_of p)) true
   marks_are behind is =
-      ap (λ (ms : List Bool). marked ms (pattern_of p)) (is ∙ ap (λ (w : Walked). w.marks) walk_is)
+      ap (λ (ms : List Bool). mark_classes ms (pattern_of p)) (is ∙ ap (λ (w : Walked). w.marks) walk_is)
       ∙ (walk_steps last next (pattern_of p) marks fits).marks_are
 
 pub returns-clause-left : goal.returns-clause-left

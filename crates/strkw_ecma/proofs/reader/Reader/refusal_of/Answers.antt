@@ -3,7 +3,7 @@ use Rattle.std.specs.Str.{chars}
 use Rattle.std.proofs.lemmas.Iterator.{YieldsList-from_chars}
 use Rattle.std.proofs.lemmas.List.{length_push}
 use Rattle.std.proofs.lemmas.Iterator.Consumers.{YieldsList-turn, YieldsList-end}
-use Rattle.strkw_ecma.specs.machine.Shape.{outlined}
+use Rattle.strkw_ecma.specs.machine.Shape.{outline_pattern}
 use Rattle.strkw_ecma.specs.machine.Reading.{next as spec_next, read_from, when}
 use Rattle.strkw_ecma.specs.machine.Parts.{parts_of}
 use Rattle.strkw_ecma.specs.Refusals.{IsReason}
@@ -47,5 +47,6 @@ returns-in-Some-2 c =
     let end = YieldsList-end (YieldsList-from_chars c.args.source.now c.utf8.source cc) c.loop-c.yielded _ c.loop-c.yielded_by _ _
     c.in-None.is c.next.ensures.steps in
     let at_end = whole (parts_of c.loop-c.self) text (length c.loop-c.yielded) (omega (arith, end.1)) c.requires.short c.loop-c.invariant.way in
-    too_large text (outlined c.in-Some-2.field-0) c.requires.short (ap (option_map outlined) (sym c.in-Some-2.is) ∙ c.in_ok-end.ensures.tree ∙ at_end)
+    too_large text (outline_pattern c.in-Some-2.field-0) c.requires.short
+    (ap (option_map outline_pattern) (sym c.in-Some-2.is) ∙ c.in_ok-end.ensures.tree ∙ at_end)
     (sym c.is_apart.ensures ∙ c.if-is_apart.true) c.requires.refused

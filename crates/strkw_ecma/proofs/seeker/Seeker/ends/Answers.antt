@@ -4,8 +4,8 @@ use Rattle.std.proofs.lemmas.List.{length-replicate}
 use Rattle.strkw_ecma.specs.machine.Along.{left_of}
 use Rattle.strkw_ecma.specs.machine.Bits.{rows_of}
 use Rattle.strkw_ecma.specs.machine.Machine.{pattern_of}
-use Rattle.strkw_ecma.specs.machine.Marks.{marked}
-use Rattle.strkw_ecma.specs.machine.Seeking.{ends_from, said}
+use Rattle.strkw_ecma.specs.machine.Marks.{mark_classes}
+use Rattle.strkw_ecma.specs.machine.Seeking.{ends_from, row_answer}
 use Rattle.strkw_ecma.specs.machine.Slots.{told_by}
 use Rattle.strkw_ecma.proofs.Machines.{few_marks}
 use Rattle.strkw_ecma.proofs.Marked.{unmarked, none_marked}
@@ -19,11 +19,11 @@ characters-init c =
     let s = c.args.self.now in
     let p = pattern_of s.program in
     let rows = rows_of c.args.rows.now in
-    let none : marked (replicate 2600 false) p ≡ p = unmarked (replicate 2600 false) p s.clean (none_marked 2600) in
+    let none : mark_classes (replicate 2600 false) p ≡ p = unmarked (replicate 2600 false) p s.clean (none_marked 2600) in
     record {
       long = length-replicate 2600 false;
       to_come = c.char_count-ahead.ensures ∙ sym (ap length c.new-left.ensures ∙ along_length s.is_backward (chars c.args.text.now));
-      so_far = ap (λ l. l ++ ends_from rows s.told.items (marked (replicate 2600 false) p) None (left_of c.new-left.result)) c.new-bits.ensures
+      so_far = ap (λ l. l ++ ends_from rows s.told.items (mark_classes (replicate 2600 false) p) None (left_of c.new-left.result)) c.new-bits.ensures
           ∙ ap (λ q. ends_from rows s.told.items q None (left_of c.new-left.result)) none
           ∙ ap (ends_from rows s.told.items p None) c.new-left.ensures;
     }
@@ -32,11 +32,12 @@ pub characters-preserved : goal.characters-preserved
 characters-preserved c =
     let s = c.args.self.now in
     let told = c.tell.ensures.marks (pattern_of s.program) (omega (arith, few_marks s.program, c.characters.invariant.long))
-    ∙ ap (λ ts. told_by (said (rows_of c.args.rows.now) c.characters.ahead) ts (marked c.characters.marks (pattern_of s.program))) c.deref.ensures.value in
+    ∙ ap (λ ts. told_by (row_answer (rows_of c.args.rows.now) c.characters.ahead) ts (mark_classes c.characters.marks (pattern_of s.program)))
+    c.deref.ensures.value in
     record {
       long = c.step.ensures.length ∙ c.tell.ensures.length ∙ c.characters.invariant.long;
       to_come = omega (arith, c.characters.invariant.to_come, ap length c.in-Some.ensures);
-      so_far = ap (λ l. l ++ ends_from (rows_of c.args.rows.now) s.told.items (marked c.step.new.marks (pattern_of s.program)) (Some c.in-Some.c)
+      so_far = ap (λ l. l ++ ends_from (rows_of c.args.rows.now) s.told.items (mark_classes c.step.new.marks (pattern_of s.program)) (Some c.in-Some.c)
           (left_of c.next.new.self)) c.in_ok-push.ensures
           ∙ row_turn _ _ _ _ _ _ _ c.in-Some.ensures _ c.characters.invariant.to_come _ told c.step.result c.step.ensures.left _ c.step.ensures.marks _ _
           c.characters.invariant.so_far;
@@ -49,7 +50,7 @@ pub returns : goal.returns
 returns c =
     let s = c.args.self.now in
     let told = c.tell-2.ensures.marks (pattern_of s.program) (omega (arith, few_marks s.program, c.characters.invariant.long))
-    ∙ ap (λ ts. told_by (said (rows_of c.args.rows.now) 0) ts (marked c.characters.marks (pattern_of s.program))) c.deref-2.ensures.value in
+    ∙ ap (λ ts. told_by (row_answer (rows_of c.args.rows.now) 0) ts (mark_classes c.characters.marks (pattern_of s.program))) c.deref-2.ensures.value in
     c.in_ok-push-2.ensures
     ∙ row_ends _ _ _ _ _ (none_next _ _ c.next.result c.in_default.not-Some c.next.ensures) _ told c.step-2.result c.step-2.ensures.left _ _
     c.characters.invariant.so_far

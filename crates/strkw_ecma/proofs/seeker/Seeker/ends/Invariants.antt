@@ -3,8 +3,8 @@ use Rattle.std.specs.Str.{chars}
 use Rattle.strkw_ecma.specs.machine.Along.{left_of}
 use Rattle.strkw_ecma.specs.machine.Bits.{bits_of, rows_of}
 use Rattle.strkw_ecma.specs.machine.Machine.{pattern_of}
-use Rattle.strkw_ecma.specs.machine.Marks.{marked}
-use Rattle.strkw_ecma.specs.machine.Seekers.{seeking}
+use Rattle.strkw_ecma.specs.machine.Marks.{mark_classes}
+use Rattle.strkw_ecma.specs.machine.Seekers.{seeking_of}
 use Rattle.strkw_ecma.specs.machine.Seeking.{ends_from, row_of}
 use Rattle.strkw_ecma.proofs.seeker.Seeker.ends.Given as goal
 
@@ -13,8 +13,8 @@ abbrev pub invariant-characters : goal.invariant-characters
 invariant-characters l = record {
   long : length l.marks ≡ 2600;
   to_come : l.ahead ≡ length (left_of l.left);
-  so_far : bits_of l.bits ++ ends_from (rows_of l.rows) l.self.told.items (marked l.marks (pattern_of l.self.program)) l.last (left_of l.left)
-      ≡ row_of (rows_of l.rows) (chars l.text) (seeking l.self);
+  so_far : bits_of l.bits ++ ends_from (rows_of l.rows) l.self.told.items (mark_classes l.marks (pattern_of l.self.program)) l.last (left_of l.left)
+      ≡ row_of (rows_of l.rows) (chars l.text) (seeking_of l.self);
 }
 
 abbrev pub decreases-characters : goal.decreases-characters

@@ -4,7 +4,7 @@ use Rattle.strkw_ecma.specs.Mirror.{along}
 use Rattle.strkw_ecma.specs.machine.Along.{left_of}
 use Rattle.strkw_ecma.specs.machine.Bits.{rows_of}
 use Rattle.strkw_ecma.specs.machine.Machine.{pattern_of}
-use Rattle.strkw_ecma.specs.machine.Marks.{marked}
+use Rattle.strkw_ecma.specs.machine.Marks.{mark_classes}
 use Rattle.strkw_ecma.specs.machine.Seeking.{ends_within}
 use Rattle.strkw_ecma.proofs.seeker.Seeker.is_found.Given as goal
 
@@ -13,7 +13,7 @@ abbrev pub invariant-characters : goal.invariant-characters
 invariant-characters l = record {
   long : length l.marks ≡ 2600;
   to_come : l.ahead ≡ length (left_of l.left);
-  so_far : ends_within (rows_of l.rows) l.self.told.items (marked l.marks (pattern_of l.self.program)) l.last (left_of l.left)
+  so_far : ends_within (rows_of l.rows) l.self.told.items (mark_classes l.marks (pattern_of l.self.program)) l.last (left_of l.left)
       ≡ ends_within (rows_of l.rows) l.self.told.items (pattern_of l.self.program) None (along l.self.is_backward (chars l.text));
 }
 

@@ -5,8 +5,8 @@ use Rattle.strkw_ecma.proofs.Bytes.{column_within, reads_char}
 use Rattle.strkw_ecma.proofs.Walks.{turn_found, turn_goes, walk_ends, walk_of_rows}
 use Rattle.strkw_ecma.proofs.table.Table.is_found_behind.Goals as goal
 
-pub behind-requires-clause-column : goal.behind-requires-clause-column
-behind-requires-clause-column c =
+pub next_row-requires-clause-column : goal.next_row-requires-clause-column
+next_row-requires-clause-column c =
     let here = c.column_at-column.ensures in
     let within = column_within c.args.self.now.columns.classes.items c.args.self.now.columns.keys.items here.0 c.column_at-column.result.0 here.3 in
     omega (arith, within, c.rows-rows.ensures.end)

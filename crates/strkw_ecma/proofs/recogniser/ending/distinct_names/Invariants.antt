@@ -1,7 +1,7 @@
 use Rattle.std.proofs.Common.{◌≡◌, map, take, true}
 use Rattle.strkw_ecma.specs.Names.{are_distinct}
 use Rattle.strkw_ecma.proofs.RegexNames.{HasNames}
-use Rattle.strkw_ecma.proofs.recogniser.ending.distinct.Given as goal
+use Rattle.strkw_ecma.proofs.recogniser.ending.distinct_names.Given as goal
 
 -- the set has the names so far, and none of them is there twice
 abbrev pub invariant-loop-name : goal.invariant-loop-name

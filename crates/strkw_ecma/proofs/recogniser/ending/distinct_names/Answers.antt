@@ -3,7 +3,7 @@ use Rattle.std.specs.BTreeSet.{contains}
 use Rattle.strkw_ecma.specs.Names.{are_distinct}
 use Rattle.strkw_ecma.specs.machine.NameSets.{has_name}
 use Rattle.strkw_ecma.proofs.RegexNames.{name_cmp, HasNames, keeps, distinct_push, twice, next_names, names_from}
-use Rattle.strkw_ecma.proofs.recogniser.ending.distinct.Goals as goal
+use Rattle.strkw_ecma.proofs.recogniser.ending.distinct_names.Goals as goal
 
 pub returns-then-not-branch-clause-distinct : goal.returns-then-not-branch-clause-distinct
 returns-then-not-branch-clause-distinct c =

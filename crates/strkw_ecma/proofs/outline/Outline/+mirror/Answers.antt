@@ -1,15 +1,15 @@
 use Rattle.std.proofs.Common.{◌≡◌}
 use Rattle.strkw_ecma.specs.Program.{is_empty}
-use Rattle.strkw_ecma.specs.machine.Shape.{outlined}
+use Rattle.strkw_ecma.specs.machine.Shape.{outline_pattern}
 use Rattle.strkw_ecma.proofs.Counterparts.{then_made, or_made, repeated_made, behind_made, ahead_made}
-use Rattle.strkw_ecma.proofs.outline.Outline.+mirrored.Goals as goal
+use Rattle.strkw_ecma.proofs.outline.Outline.+mirror.Goals as goal
 
 pub returns-in_ok-second-in-Then : goal.returns-in_ok-second-in-Then
 returns-in_ok-second-in-Then t c =
-    let one : c.is_nothing.result ≡ is_empty (outlined c.in-Then.first.value) = cc in
-    let other : c.is_nothing-in-Then.result ≡ is_empty (outlined c.in-Then.second.value) = cc in
-    then_made c.args.self c.beside.result c.in-Then.first c.in-Then.second _ _ c.in_ok-first-in-Then.first c.in_ok-second-in-Then.second _ _
-    c.in-Then.is c.into_inner.ensures c.into_inner-in-Then.ensures one other c.in_ok-first-in-Then.ensures c.in_ok-second-in-Then.ensures c.beside.ensures
+    let one : c.is_nothing.result ≡ is_empty (outline_pattern c.in-Then.first.value) = cc in
+    let other : c.is_nothing-in-Then.result ≡ is_empty (outline_pattern c.in-Then.second.value) = cc in
+    then_made c.args.self c.join.result c.in-Then.first c.in-Then.second _ _ c.in_ok-first-in-Then.first c.in_ok-second-in-Then.second _ _
+    c.in-Then.is c.into_inner.ensures c.into_inner-in-Then.ensures one other c.in_ok-first-in-Then.ensures c.in_ok-second-in-Then.ensures c.join.ensures
 
 pub returns-in_ok-other-in-Or : goal.returns-in_ok-other-in-Or
 returns-in_ok-other-in-Or t c =
@@ -23,10 +23,10 @@ returns-in_ok-body-in-Repeated t c =
 
 pub returns-in_ok-body-in-Behind : goal.returns-in_ok-body-in-Behind
 returns-in_ok-body-in-Behind t c =
-    behind_made c.args.self c.ahead.result c.in-Behind.body _ c.in_ok-body-in-Behind.body c.into_inner-in-Behind.ensures
-    c.in_ok-body-in-Behind.ensures c.in-Behind.negated c.in-Behind.is c.ahead.ensures
+    behind_made c.args.self c.into_lookahead.result c.in-Behind.body _ c.in_ok-body-in-Behind.body c.into_inner-in-Behind.ensures
+    c.in_ok-body-in-Behind.ensures c.in-Behind.negated c.in-Behind.is c.into_lookahead.ensures
 
 pub returns-in_ok-body-in-Ahead : goal.returns-in_ok-body-in-Ahead
 returns-in_ok-body-in-Ahead t c =
-    ahead_made c.args.self c.behind.result c.in-Ahead.body _ c.in_ok-body-in-Ahead.body c.into_inner-in-Ahead.ensures
-    c.in_ok-body-in-Ahead.ensures c.in-Ahead.negated c.in-Ahead.is c.behind.ensures
+    ahead_made c.args.self c.into_lookbehind.result c.in-Ahead.body _ c.in_ok-body-in-Ahead.body c.into_inner-in-Ahead.ensures
+    c.in_ok-body-in-Ahead.ensures c.in-Ahead.negated c.in-Ahead.is c.into_lookbehind.ensures
