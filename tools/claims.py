@@ -30,7 +30,8 @@ OF_OTHERS = {"CHANGELOG.md", "docs/DIFFERENCES.md", "bench/README.md"}
 PATH = re.compile(r"`([\w.-]+(?:/[\w.-]+)+/?|[\w-]+\.(?:rt|antt|md|py|toml|edit|jsonl|tsv|c|h|rs|so|a))`")
 NAME = re.compile(r"`([A-Za-z]\w*_\w+|[A-Z]\w*[a-z]\w*|\w+(?:::\w+)+)`")
 NUMBERS = {word: number for number, word in enumerate(
-    "no one two three four five six seven eight nine ten eleven twelve thirteen fourteen fifteen sixteen".split())}
+    "no one two three four five six seven eight nine ten eleven twelve thirteen fourteen fifteen sixteen "
+    "seventeen eighteen nineteen twenty".split())}
 # What `rt version` prints, which stands in no file.
 OUTSIDE = {"Rattle"}
 

@@ -3,9 +3,10 @@
 
     python3 tools/refusals.py           on the binaries that the last `rt ci` left in crates/*/out
     python3 tools/refusals.py --gate    first tools/claims.py, `tools/edits.py --check` and `rt ci` itself, and last
-                                        `tools/grammar_rows.py --check`, `tools/keyword_rows.py --check`,
-                                        tools/programs.py, `tools/sizes.py --bounded`, bindings/test,
-                                        bindings/test_calls and tools/test_packages.py; the last line counts all
+                                        `tools/formats.py --check`, `tools/grammar_rows.py --check`,
+                                        `tools/keyword_rows.py --check`, tools/programs.py,
+                                        `tools/sizes.py --bounded`, bindings/test, bindings/test_calls and
+                                        tools/test_packages.py; the last line counts all
     python3 tools/refusals.py --gate --store    the same; its minutes and counts go to docs/gate.txt
 
 A *row* is a test whose name ends in `_under_refusal`. With ample memory it passes only where its calls answer what
@@ -291,6 +292,7 @@ def gate():
         os.environ.setdefault("RT_JOBS", str(checks_at_once()))
         yield "rt ci", counted(["rt", "ci"], "`rt ci`")
         yield "tools/refusals.py", refusals()
+        yield asked("tools/formats.py", "--check")
         yield asked("tools/grammar_rows.py", "--check")
         yield asked("tools/keyword_rows.py", "--check")
         yield asked("tools/programs.py")
