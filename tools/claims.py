@@ -88,10 +88,6 @@ def numbers_of(tree):
         "stored": len(tree.under(r"crates/\w+/stdout")),
         "definitions": len(definitions),
         "definition_crates": len({name.split("/")[2] for name in definitions}),
-        # A mail address is no format of a schema object.
-        "formats": tree.count("bindings/strkw.h", r"^bool strkw_is_(?!email)\w+\("),
-        # Two formats have the name `hostname`, one of them in drafts 4 and 6.
-        "names": tree.count("bindings/strkw.h", r"^bool strkw_is_(?!email)\w+(?<!_draft4)\("),
         "programs": len(tree.under(r"crates/strkw(_csv|_config)?/src/main\.rt")),
     }
 
@@ -100,12 +96,6 @@ def numbers_of(tree):
 # wrong too: who rewords a sentence rewords it here.
 COUNTED = [
     ("README.md", r"a library, a command and (\w+) programs", "programs"),
-    ("README.md", r"Each of the (\w+) formats", "formats"),
-    ("docs/PROGRAMS.md", r"a table of the (\w+) formats", "formats"),
-    ("docs/CALLING.md", r"the (\w+) names of formats of draft 7 and later", "names"),
-    ("docs/ARCHITECTURE.md", r"of the (\w+) formats by name", "formats"),
-    ("docs/INSIDE.md", r"of each of the (\w+) formats", "formats"),
-    ("docs/PROVED.md", r"are the (\w+) formats", "formats"),
     ("docs/PROVED.md", r"which holds (\d+) of them", "further_bodies"),
     ("docs/PROVED.md", r"There are (\d+) bodies now", "all_bodies"),
     ("docs/PROVED.md", r"tries (\d+) must-fail edits", "edits"),

@@ -5,9 +5,10 @@
     python3 tools/formats.py --check    compares them; the last line is `N passed, M failed`, one count for each file
 
 What the library has of a format is read from `crates/strkw_formats`: its name, drafts, example and the texts at the
-ends of its window from `specs/Formats.antt`, and its order and recogniser from `src/builtin.rt`. The verdict on the
-empty text, the window and the drafts of rows are those of `tools/keyword_texts.py`, which has them from the standards.
-`TOLD` below has what stands nowhere else. `FILES` at the end has the files, each with what writes its lines.
+ends of its window from `specs/Formats.antt`, and its order and recogniser from `src/builtin.rt`. What the rows of
+programs expect is not read there: the drafts, the window and the verdict on the empty text are those of
+`tools/keyword_texts.py`, which has them from the standards. `TOLD` below has what stands nowhere else, and `FILES` at
+the end has the files, each with what writes its lines.
 
 The lines of a file are found by their shape, so that no file is marked. Most files have them in the order of the
 library or of the alphabet. Where a file has an order of its own, it keeps it, and a new format comes in behind the one
@@ -109,6 +110,11 @@ class Format:
     def in_tables(self):
         """What the tables of texts have of it."""
         return row_of(self.variant, {it.variant: it for it in keyword_texts.FORMATS}, "tools/keyword_texts.py")
+
+    @property
+    def drafts_in_tables(self):
+        """The first and the last draft in those tables, as documents write them."""
+        return tuple(draft_of(keyword_texts.DRAFTS[it]) for it in (self.in_tables.first, self.in_tables.last))
 
 
 MAIL = Format("Email", "email", TOLD["Email"])
@@ -416,7 +422,7 @@ def as_table(text, formats):
     shape = r"^name +first +last +example\n(?:^.+ +\d.* .*\n)+"
     names = {it.name for it in formats}
     had = [line.split(maxsplit=3) for line in re.findall(".+", re.search(shape, text, re.M)[0])]
-    rows = [had[0], *((it.name, it.first, it.last, in_toml(it.example)) for it in formats),
+    rows = [had[0], *((it.name, *it.drafts_in_tables, in_toml(it.example)) for it in formats),
             *(row for row in had[1:] if row[0] not in names)]
     width = max(len(row[0]) for row in rows)
     lines = [f"{name:{width}}  {first:7}  {last:7}  {example}" for name, first, last, example in rows]
@@ -428,7 +434,8 @@ def as_json(text, formats):
     shape = r'^\{"example":.*"name":"([\w-]+)"\}\n'
     names = {it.name for it in formats}
     others = [line[0].rstrip() for line in re.finditer(shape, text, re.M) if line[1] not in names]
-    rows = [in_json({"example": it.example, "first": it.first, "last": it.last, "name": it.name}) for it in formats]
+    rows = [in_json({"example": it.example, "first": first, "last": last, "name": it.name})
+            for it in formats for first, last in [it.drafts_in_tables]]
     return with_lines(text, f"(?:{shape})+", [*map(in_toml, rows), *others])
 
 

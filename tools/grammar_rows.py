@@ -1,8 +1,9 @@
 #!/usr/bin/env python3
 """Writes rows of crates/strkw_test_grammars from the grammars of the standards, as they are written there.
 
-    python3 tools/grammar_rows.py            writes the rows that it makes into `stdin`, and their lines into `stdout`
-    python3 tools/grammar_rows.py --check    compares both with what it makes; the last line counts the lines
+    python3 tools/grammar_rows.py            writes the rows that it makes into `stdin`, and their lines into `stdout`,
+                                             whose last line README.md of the crate quotes
+    python3 tools/grammar_rows.py --check    compares them with what it makes; the last line counts the lines
 
 In each part of `stdin` the rows of this script stand last, below the comment that names it. What it expects comes from
 the rules below, which are the standards' own in the notation of Python, or from another program than the one that is
@@ -2946,7 +2947,9 @@ def main():
     if not sys.argv[1:]:
         for name, lines in files.items():
             (CRATE / name).write_text("".join(f"{line}\n" for line in lines))
-        print(files["stdout"][-1])
+        readme, last = CRATE / "README.md", files["stdout"][-1]
+        readme.write_text(re.sub(r"(?m)^\d+ rows, \d+ answers, 0 of them wrong$", last, readme.read_text()))
+        print(last)
         return 0
     counted = [compare(name, lines) for name, lines in files.items()]
     is_quoted = files["stdout"][-1] in (CRATE / "README.md").read_text()
