@@ -179,7 +179,7 @@ def with_words(text, shape, words):
     """The text with other words in place of the first that have the shape, a regular expression."""
     found = re.search(shape, text, re.M)
     if found is None:
-        raise SystemExit(f"formats: nothing has the shape {shape}")
+        raise LookupError(shape)
     return text[:found.start()] + words + text[found.end():]
 
 
@@ -251,7 +251,7 @@ def with_definitions(head, formats):
     places = re.findall(r"^use Rattle\.(strkw_[\w.]+)\.\{(.*?)\}$", stored(DEFINITIONS), re.M)
     modules = {name: module for module, names in places for name in names.split(", ")}
     for it in formats:
-        module = modules[it.definition]
+        module = row_of(it.definition, modules, DEFINITIONS)
         line = re.search(rf"^ghost use Rattle\.{module}\.\{{(.*?)\}};$", head, re.M)
         if line is None:
             last = [*re.finditer(r"^ghost use .*\n", head, re.M)][-1]
@@ -512,9 +512,17 @@ FILES = {
 }
 
 
-def is_as_made(name, made):
+def wanted(name, formats):
+    """A file as it is to be."""
+    try:
+        return FILES[name](stored(name), formats)
+    except LookupError as shape:
+        raise SystemExit(f"formats: {name} has nothing of the shape {shape}") from None
+
+
+def is_as_wanted(name, text):
     """Whether a file is as it is to be; where it is not, its first line that is not is told."""
-    pairs = itertools.zip_longest(stored(name).split("\n"), made.split("\n"))
+    pairs = itertools.zip_longest(stored(name).split("\n"), text.split("\n"))
     wrong = [place for place, (one, other) in enumerate(pairs, 1) if one != other]
     if wrong:
         print(f"formats: {name}, line {wrong[0]} is not what the table of the formats makes")
@@ -526,12 +534,12 @@ def main():
     if sys.argv[1:] not in ([], ["--check"]):
         raise SystemExit(__doc__)
     formats = list(formats_of_library())
-    files = {name: write(stored(name), formats) for name, write in FILES.items()}
+    files = {name: wanted(name, formats) for name in FILES}
     if not sys.argv[1:]:
-        for name, made in files.items():
-            (TOP / name).write_bytes(made.encode())
+        for name, text in files.items():
+            (TOP / name).write_bytes(text.encode())
         return 0
-    counts = [is_as_made(name, made) for name, made in files.items()]
+    counts = [is_as_wanted(name, text) for name, text in files.items()]
     print(f"{counts.count(True)} passed, {counts.count(False)} failed")
     return 1 if False in counts else 0
 
