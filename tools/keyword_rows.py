@@ -708,6 +708,7 @@ def requests():
 
 
 ONE_REQUEST = {"draft": 7, "schema": {"format": "date", "maxLength": 1}, "instance": "x"}
+RIGHT_MEMBERS = {**ONE_REQUEST, "validate_formats": True, "ignore_unknown_formats": True, "fold": True}
 WORDS = ("x", "draft", "7x", "{", "}", "[", "]", ",", ":", "\"draft\"", "{]", "[}", "{}{}", "{} 1", "//", "{\"draft\"}",
          "{\"draft\":}", "{\"draft\",7}", "{7:\"draft\"}", "\"", "\"\\x\"", "nul", "NaN", "'x'", "\ufeff{}")
 
@@ -812,8 +813,31 @@ def names_with_escapes():
             yield made(compact({"input": [line]}), answer_to_line({**row, "schema": {keyword: RIGHT[keyword]}}))
 
 
+# Numbers about the ends of those of 64 bits, and numbers that are written with a point or an exponent.
+NUMBERS = ("0", "-0", "7", "-1", "-7", "-10", "123456789", "2147483648", "-2147483649", "9223372036854775807",
+           "9223372036854775808", "-9223372036854775807", "-9223372036854775808", "-9223372036854775809",
+           "18446744073709551615", "18446744073709551616", "-18446744073709551615", "1" + "0" * 30, "-1.5", "1.0", "-2.0",
+           "1e0", "-1E+2", "10e-1", "0.0", "-0.0", "0e9", "1e-999", "-1e-999", "1e308", "-1.7976931348623157e308")
+
+
+def numbers_in_requests():
+    """The values of a schema object are those of its line: numbers are refused, noted and told as they are written."""
+    for draft, shape in product(DRAFTS, SHAPES):
+        yield requested(draft, {"format": shape}, "x", validate_formats=True)
+        yield requested(draft, {"contentMediaType": "a/b", "contentSchema": shape}, "x")
+    for written, form in product(NUMBERS, ("%s", "[%s]", '{"a":[true,%s,"1"]}')):
+        value = parsed(form % written)
+        for keyword in KEYWORDS if form == "%s" else ("format", "maxLength"):
+            yield requested(7, {keyword: value}, "x")
+        yield requested(202012, {"contentMediaType": "a/b", "contentSchema": value}, "x")
+        yield requested(7, {"maxLength": 0, "x": value}, value)
+
+
 # Values that JSON readers refuse.
-NO_VALUES = ("1e999", '"\\ud800"', '[1e999]', '{"\\udfff":1}', "nul", '"\x01"')
+NO_VALUES = ("1e999", '"\\ud800"', '[1e999]', '{"\\udfff":1}', "nul", '"\x01"', '{"a":1e999}', '{"a":[-1e999]}',
+             '[{"a":-1e999}]', '{"a":nul}', '{"a":{}')
+# Texts that spell a number which JSON readers refuse, within other values.
+SPELT_NUMBERS = ('["1e999"]', '["-1e999",{}]', '{"a":"1e999"}', '{"1e999":["-1e999"]}')
 
 
 def other_members():
@@ -826,10 +850,17 @@ def other_members():
         yield made(compact({"input": [front + wrong + "}"]}), ["bad request", "end"])
     for name in MEMBERS:
         for wrong in NO_VALUES:
-            rest = compact(numbered({name: {**ONE_REQUEST, "validate_formats": True, "ignore_unknown_formats": True,
-                                            "fold": True}[name], **{it: ONE_REQUEST[it] for it in ONE_REQUEST
-                                                                    if it != name}}))[1:]
+            rest = compact(numbered({name: RIGHT_MEMBERS[name],
+                                     **{it: ONE_REQUEST[it] for it in ONE_REQUEST if it != name}}))[1:]
             yield made(compact({"input": [f'{{"{name}":{wrong},{rest}']}), ["bad request", "end"])
+        for spelt in SPELT_NUMBERS:
+            yield lined({**ONE_REQUEST, name: parsed(spelt)})
+            members = [(name, parsed(spelt)), *({**ONE_REQUEST, name: RIGHT_MEMBERS[name]}).items()]
+            yield made(compact({"input": [joined(*quoted(*numbered(members)))]}),
+                       answer_to_line(numbered({**ONE_REQUEST, name: RIGHT_MEMBERS[name]})))
+    for name, spelt in product((*KEYWORDS, "x"), SPELT_NUMBERS):
+        yield requested(7, {name: parsed(spelt)}, "x")
+        yield requested(7, {"maxLength": 0, "x": [parsed(spelt)]}, "x")
     for name, wrong in product((*KEYWORDS, "x"), NO_VALUES):
         line = f'{{"draft":7,"schema":{{"{name}":{wrong},"{name}":1}},"instance":"x"}}'
         yield made(compact({"input": [line]}), ["bad request", "end"])
@@ -1013,7 +1044,7 @@ SECTIONS = (
     ("lists in use", lists_in_use), ("numbers that are no drafts", no_drafts),
     ("requests", requests), ("lines of each shape", lines_of_each_shape),
     ("members and keywords that stand twice", members_that_stand_twice), ("names with escapes", names_with_escapes),
-    ("other members", other_members),
+    ("numbers in requests", numbers_in_requests), ("other members", other_members),
     ("members that nest", deep_members), ("members of schema objects that nest", deep_members_of_schemas),
     ("lines with a bound", bounded_lines),
     ("each character of ASCII", controls), ("folds told", folds_told),
