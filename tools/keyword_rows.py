@@ -817,10 +817,11 @@ def names_with_escapes():
 NUMBERS = ("0", "-0", "7", "-1", "-7", "-10", "123456789", "2147483648", "-2147483649", "9223372036854775807",
            "9223372036854775808", "-9223372036854775807", "-9223372036854775808", "-9223372036854775809",
            "18446744073709551615", "18446744073709551616", "-18446744073709551615", "1" + "0" * 30, "-1.5", "1.0",
-           "-2.0", "1e0", "-1E+2", "10e-1", "0.0", "-0.0", "0e9", "1e-999", "-1e-999", "1e308", "-1.7976931348623157e308")
+           "-2.0", "1e0", "-1E+2", "10e-1", "0.0", "-0.0", "0e9", "1e-999", "-1e-999", "1e308",
+           "-1.7976931348623157e308")
 
 
-def numbers_in_requests():
+def values_in_requests():
     """The values of a schema object are those of its line: numbers are refused, noted and told as they are written."""
     for draft, shape in product(DRAFTS, SHAPES):
         yield requested(draft, {"format": shape}, "x", validate_formats=True)
@@ -831,6 +832,19 @@ def numbers_in_requests():
             yield requested(7, {keyword: value}, "x")
         yield requested(202012, {"contentMediaType": "a/b", "contentSchema": value}, "x")
         yield requested(7, {"maxLength": 0, "x": value}, value)
+    # Names are told in the order of their bytes, and with escapes.
+    for names in (("\U0001f600", "\uff5e", "\ud7ff", "\ue000"), ("b", "a", "B", "", "ab", "aa", "\u00e9", "\x7f"),
+                  *(map(chr, range(last, last - 32, -1)) for last in (31, 63, 95, 127))):
+        value = {name: [{name: name}, at] for at, name in enumerate(names)}
+        yield requested(7, {"format": value}, "x")
+        yield requested(202012, {"contentMediaType": "a/b", "contentSchema": value}, "x")
+        yield asked(202012, {"contentMediaType": "a/b", "contentSchema": value}, ["x"])
+    # A character may stand in two of the pieces of 64 KiB that a run reads.
+    for sign, spaces in product("\u00e9\u20ac\U0001f600", range(4)):
+        lengths = {"minLength": 50_000, "maxLength": 50_000}
+        front, end = compact(numbered({"draft": 7, "schema": lengths, "instance": ""})).split('""')
+        parts = [" " * spaces + front + '"', [sign, Number("50000")], f'"{end}\n', front + '"x"' + end]
+        yield made(compact({"input": parts}), ["valid", "end", *answer_to_line(parsed(front + '"x"' + end))])
 
 
 # Values that JSON readers refuse.
@@ -1044,7 +1058,7 @@ SECTIONS = (
     ("lists in use", lists_in_use), ("numbers that are no drafts", no_drafts),
     ("requests", requests), ("lines of each shape", lines_of_each_shape),
     ("members and keywords that stand twice", members_that_stand_twice), ("names with escapes", names_with_escapes),
-    ("numbers in requests", numbers_in_requests), ("other members", other_members),
+    ("values in requests", values_in_requests), ("other members", other_members),
     ("members that nest", deep_members), ("members of schema objects that nest", deep_members_of_schemas),
     ("lines with a bound", bounded_lines),
     ("each character of ASCII", controls), ("folds told", folds_told),
