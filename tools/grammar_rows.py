@@ -67,6 +67,11 @@ def long_searches(rows):
     return {"ask": "long searches", "rows": rows}, len(rows)
 
 
+def tables(rows):
+    """A pattern, and whether it is searched by a table."""
+    return {"ask": "tables", "rows": rows}, len(rows)
+
+
 def decoded(of, rows):
     """A text and the bytes that it encodes, in hexadecimal. Each row has three answers."""
     return {"ask": "decoded", "of": of, "rows": rows}, 3 * len(rows)
@@ -2386,6 +2391,176 @@ def both_ways_rows():
         "(?<=a{1000}a{297})(?=b{1000}b{298})", "(?=a{1000}(?<=b{1000}c{595}))"])
 
 
+# What a lookbehind may look for that the character before its place tells, and what that does not tell.
+GLANCES_BEHIND = [
+    "", "a", "b", "[ab]", "[^a]", "[^]", "[]", "a|b", "a|^", "|b", "$", "^", "^|b", "\\b", "\\B", "\\w", ".", "(?:a)",
+    "(?:a|^)?", "a?", "(?<=a)", "(?<!a)", "(?:|(?<!b))", "a{0}", "(?:ab){0,0}", "(?:){2}", "(?:a|b)?",
+    "(?:^|\\b)", "(?<=[ab])", "(?<!^)"]
+FAR_BEHIND = [
+    "ab", "ba", "a*", "a+", "a{2}", "a{1}", "a{0,1}", "a{0,2}", "a{1,2}", "a{0,}", "a{1,}", "(?:ab)?", "(?:ab)*",
+    "a|ba", "ba|a", "ab|ba", "b.*", "^a", "(?<=ab)", "(?<!ab)", "(?=c)", "(?!c)", "(?=ca)", "(?!ca)", "(?<=a)b",
+    "a(?<=ba)", "a\\b", "(?:a|^){2}", "(?:ab?){1,2}", "ab{0}", "(?:|ab)", "(?:^|ba)", "(?:(?=c)|b)", "b{0}a",
+    "(?:)(?:a|^)"]
+
+
+def in_python(body):
+    """A body in the notation of Python, where a class has a character, and `\\B` stands in no empty text."""
+    return body.replace("[^]", "(?s:.)").replace("[]", "(?!)").replace("\\B", "(?!\\b)")
+
+
+def stands_behind(body, text, place):
+    """Whether the body matches up to a place of the text from some place on."""
+    to_place = re.compile(f"(?:{in_python(body)})(?=(?s:.{{{len(text) - place}}})\\Z)")
+    return any(to_place.match(text, start) for start in range(place + 1))
+
+
+def near_both_rows():
+    """Each body of a lookbehind before a lookahead that looks far, and of a lookahead behind a lookbehind that does."""
+    yield "each body of a lookbehind beside a lookahead that looks far, and of a lookahead beside a lookbehind that does"
+    beside = list(itertools.product(words("ab", range(3)), ("ab", "ba")))
+    for bodies in (GLANCES_BEHIND, FAR_BEHIND):
+        rows = []
+        for body, (word, tail) in itertools.product(bodies, beside):
+            text = f"{word}c{tail}"
+            stands = stands_behind(body, text, len(word))
+            rows += [[f"(?<={body})c(?=ab)", text, stands and tail == "ab"],
+                     [f"(?<!{body})c(?=ab)", text, not stands and tail == "ab"]]
+        yield searches(rows)
+    for bodies in (GLANCES, FAR):
+        rows = []
+        for body, (word, head) in itertools.product(bodies, beside):
+            text = f"{head}c{word}"
+            stands = stands_ahead(body, text, 3)
+            rows += [[f"(?<=ab)c(?={body})", text, stands and head == "ab"],
+                     [f"(?<=ab)c(?!{body})", text, not stands and head == "ab"]]
+        yield searches(rows)
+    yield "only what looks far both ways in one part has no table"
+    told = [[f"(?<={body})c(?=ab)", body in GLANCES_BEHIND] for body in GLANCES_BEHIND + FAR_BEHIND]
+    told += [[f"(?<=ab)c(?={body})", body in GLANCES] for body in GLANCES + FAR]
+    yield tables(told + [[f"c(?={body})", True] for body in GLANCES + FAR])
+
+
+# Quantifiers; and patterns that look far both ways within what they repeat, which are patterns of Python too.
+QUANTIFIERS = ["*", "+", "?", "{0}", "{1}", "{2}", "{0,}", "{1,}", "{2,}", "{0,0}", "{0,1}", "{0,2}",
+               "{1,1}", "{1,2}", "{2,2}", "{2,3}"]
+REPEATED_LOOKS = [
+    "^a?(?:(?=ba)b|(?<=ab)a){}b?$", "(?:(?<=ab)(?=ba)|a){}bb", "a(?:(?<!aa)b(?!bb)){}b?$", "(?=(?:ab){}b)(?<=ba)",
+    "(?<=ab)(?:a(?=bb)|b){}$", "^(?:a|(?<=ab)(?:(?=ba)b){})*$"]
+
+
+def repeated_look_rows():
+    """Each quantifier behind what looks far both ways."""
+    yield "each quantifier behind what looks far both ways, in each text of a and b"
+    for form in REPEATED_LOOKS:
+        patterns = [form.replace("{}", quantifier) for quantifier in QUANTIFIERS]
+        yield searches([[pattern, word, re.search(pattern, word) is not None]
+                        for pattern in patterns for word in words("ab", range(6))])
+
+
+# Terms, and their steps. What reads nothing may stand between `^` and a lookahead that is looked for by itself; what is
+# nothing, and `^`, also before `^`. No group of more than nothing may (specs/Front.antt).
+NOTHINGS = {"": 0, "(?:)": 0, "a{0}": 0, "(?:ab){0}": 0, "(?:)(?:)": 0, "^": 1}
+UNREAD = {"$": 1, "\\b": 1, "\\B": 1, "(?<=a)": 3, "(?<!a)": 3, "(?=a)": 3, "(?!a)": 3}
+OTHERS = {"a": 1, "a?": 1, "a*": 1, "a+": 1, "(?:a|b)": 5, "(?:ab)": 2, "(?:^|)": 4, "(?:^^)": 2, "(?:a)": 1, "[^]": 1,
+          "(?:^)": 1, "(?:$)": 1, "(^)": 1}
+
+
+def front_limit_rows():
+    """Lookaheads at the front, and behind what is no front, at the most steps of a whole pattern and a step more."""
+    yield ("a lookahead that looks far behind each term, at the most steps and one more: it is looked for by itself, "
+           "from a `^` of its own, where nothing was read since `^`, and else takes two steps around what it looks for")
+    fronts = [(f"^{term}", 1 + steps, 1) for term, steps in {**NOTHINGS, **UNREAD}.items()]
+    fronts += [(f"^{term}", 1 + steps, 2) for term, steps in OTHERS.items()]
+    fronts += [(f"{term}^", 1 + steps, 1) for term, steps in NOTHINGS.items()]
+    fronts += [(f"{term}^", 1 + steps, 2) for term, steps in {**UNREAD, **OTHERS}.items()]
+    taken, refused = [], []
+    for front, steps, around in fronts:
+        left = MOST_STEPS_OF_ALL - 2 * MOST_TIMES - steps - around
+        taken.append(f"{front}(?=.{{{MOST_TIMES}}}.{{{MOST_TIMES}}}.{{{left}}})")
+        refused.append(f"{front}(?=.{{{MOST_TIMES}}}.{{{MOST_TIMES}}}.{{{left + 1}}})")
+    yield refusals("taken", taken)
+    yield refusals(f"it takes more than {MOST_STEPS_OF_ALL} steps", refused)
+    yield "in the same places, beside a lookbehind that looks far: there is a table where it is looked for by itself"
+    yield tables([[f"{front}(?=ab)(?<=ba)c", around == 1] for front, _, around in fronts])
+
+
+def classes_of_bits(number):
+    """For each of eight bits a class of those among so many characters whose number has the bit."""
+    for bit in range(8):
+        having = [place for place in range(number) if place >> bit & 1]
+        starts = [place for place in having if place - 1 not in having]
+        ends_of_runs = [place for place in having if place + 1 not in having]
+        yield "".join(chr(0x4E00 + one) if one == last else f"{chr(0x4E00 + one)}-{chr(0x4E00 + last)}"
+                      for one, last in zip(starts, ends_of_runs))
+
+
+def table_rows():
+    """Which patterns have too many classes, sets or columns for a table."""
+    yield ("the most classes, sets and columns of a pattern that has a table, and one more (docs/DECISIONS.md): 64 "
+           "different classes, 512 sets in them together, 255 columns of characters")
+    many = [chr(0x4E00 + 2 * place) for place in range(514)]
+    rows = []
+    for more in (0, 1):
+        classes, fewer, sets = many[:64 + more], many[:63 + more], many[:512 + more]
+        patterns = ["".join(classes), "".join(f"[^{one}]" for one in classes), "".join(classes + classes[:9]),
+                    "".join(fewer) + "\\b", "\\B" + "".join(fewer), "".join(fewer) + "\\w", "\\w\\b" + "".join(fewer),
+                    "[" + "".join(sets) + "]", "[^" + "".join(sets) + "]", "[" + "".join(sets) + "]{2}",
+                    "[" + "".join(sets) + "][^" + "".join(sets) + "]",
+                    "[" + "".join(sets[:256]) + "][" + "".join(sets[256:]) + "]"]
+        rows += [[f"^{pattern}$", not more] for pattern in patterns]
+    for number in (254, 255, 256):
+        rows.append(["^" + "".join(f"[{sets}]" for sets in classes_of_bits(number)) + "$", number < 256])
+    yield tables(rows)
+    yield "the same classes and columns in a search"
+    rows = []
+    for number in (62, 63, 64, 65, 66):
+        one = "".join(many[:number])
+        rows += [[f"^{one}$", one, True], [f"^{one}$", one[:-1], False], [f"^{one}$", one[:-1] + one[0], False],
+                 [f"^{one}$", one[1:] + one[0], False], [f"^\\b{one}", one, False], [f"^\\B{one}\\B$", one, True]]
+    for number in (254, 255, 256):
+        pattern = "^" + "".join(f"[{sets}]" for sets in classes_of_bits(number)) + "$"
+        told = [1 << bit for bit in range(8)]
+        for places in (told, told[1:] + told[:1], [number - 1] * 8, [127] * 7 + [128], [254] * 8, [0] + told[1:]):
+            text = "".join(chr(0x4E00 + place) for place in places)
+            is_found = all(place < number and place >> bit & 1 for bit, place in enumerate(places))
+            rows.append([pattern, text, is_found])
+    yield searches(rows)
+    yield "each ASCII character behind a character of two, three and four bytes"
+    rows = []
+    for character in ASCII:
+        pattern = f"^(?:.\\x{ord(character):02x})+$"
+        for last in (ord(character), (ord(character) + 1) % 128, ord(character) ^ 64):
+            text = f"\u00e9{character}\u0800{character}\U0001f600{chr(last)}"
+            rows.append([pattern, text, last == ord(character)])
+    yield searches(rows)
+
+
+# Properties of each kind, and of some characters those that have each (UnicodeData.txt, Scripts.txt, PropList.txt and
+# DerivedCoreProperties.txt).
+CHARACTERS_OF_KINDS = "Aa1.\u00aa\u00e9\u03a9\u2160\u4e00\uffff"
+KINDS = {
+    "Any": CHARACTERS_OF_KINDS, "ASCII": "Aa1.", "Assigned": CHARACTERS_OF_KINDS[:-1],
+    "Alphabetic": "Aa\u00aa\u00e9\u03a9\u2160\u4e00", "Lowercase": "a\u00aa\u00e9", "ASCII_Hex_Digit": "Aa1",
+    "Lu": "A\u03a9", "Ll": "a\u00e9", "Nl": "\u2160", "L": "Aa\u00aa\u00e9\u03a9\u4e00", "N": "1\u2160",
+    "sc=Latn": "Aa\u00aa\u00e9\u2160", "sc=Grek": "\u03a9", "sc=Zyyy": "1."}
+
+
+def kind_rows():
+    """Properties of each kind behind those of each kind."""
+    yield "a property of each kind behind one of each kind, and each behind what lacks it"
+    rows = []
+    for (one, having), (other, also) in itertools.product(KINDS.items(), repeat=2):
+        without_it = having[0] + "".join(character for character in CHARACTERS_OF_KINDS if character not in also)
+        rows += [[f"^\\p{{{one}}}\\p{{{other}}}+$", having[0] + also, True],
+                 [f"^\\p{{{one}}}.*\\p{{{other}}}", without_it, False]]
+    for name, having in KINDS.items():
+        lacking = "".join(character for character in CHARACTERS_OF_KINDS if character not in having)
+        rows += [[f"^\\p{{{name}}}+\\P{{{name}}}+$", having + lacking, bool(lacking)],
+                 [f"^\\P{{{name}}}+\\p{{{name}}}+$", lacking + having, bool(lacking)],
+                 [f"^\\P{{{name}}}*\\p{{{name}}}{{2,}}", lacking + having[0], False]]
+    yield searches(rows)
+
+
 def ahead_rows():
     """The rows of lookaheads."""
     yield ("lookaheads of one character, `(?= )` and `(?! )`, with each body, before each text of a and b; within "
@@ -2399,6 +2574,11 @@ def ahead_rows():
     yield from ahead_syntax_rows()
     yield from front_rows()
     yield from far_rows()
+    yield from near_both_rows()
+    yield from repeated_look_rows()
+    yield from front_limit_rows()
+    yield from table_rows()
+    yield from kind_rows()
 
 
 # Patterns that begin as a lookahead does, and whether they are taken.
