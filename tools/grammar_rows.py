@@ -2437,7 +2437,31 @@ def near_both_rows():
     yield "only what looks far both ways in one part has no table"
     told = [[f"(?<={body})c(?=ab)", body in GLANCES_BEHIND] for body in GLANCES_BEHIND + FAR_BEHIND]
     told += [[f"(?<=ab)c(?={body})", body in GLANCES] for body in GLANCES + FAR]
-    yield tables(told + [[f"c(?={body})", True] for body in GLANCES + FAR])
+    told += [[f"c(?={body})", True] for body in GLANCES + FAR]
+    for times, is_left_out in {"{0}": True, "{0,0}": True, "{1}": False, "{0,1}": False, "?": False, "*": False}.items():
+        told += [[f"(?:(?<=ab)c){times}(?=ab)", is_left_out], [f"(?<=ab)(?:(?=ab)c){times}", is_left_out]]
+    yield tables(told)
+
+
+# What an assertion looks for within a lookaround, alone and beside other characters.
+EDGES = ["\\b", "\\B", "^", "$", "a|\\b", "\\B|c", "(?=\\b)", "(?!\\b)", "(?<=\\B)", "(?<!\\b)", "\\b-", "-\\b",
+         "\\Ba", "a\\B", "^\\b", "\\b$", "$|-\\b"]
+
+
+def edge_rows():
+    """Each assertion within a lookaround, beside word characters and others."""
+    yield "assertions within a lookahead and a lookbehind, beside word characters and others"
+    beside = list(itertools.product(("", "a", "-", "aa"), repeat=2))
+    for at in "c-":
+        rows = []
+        for body, (head, tail) in itertools.product(EDGES, beside):
+            text = head + at + tail
+            behind, ahead = stands_behind(body, text, len(head)), stands_ahead(body, text, len(head) + 1)
+            rows += [[f"^{head}{at}(?={body})", text, ahead], [f"^{head}{at}(?!{body})", text, not ahead],
+                     [f"(?<={body}){at}{tail}$", text, behind], [f"(?<!{body}){at}{tail}$", text, not behind],
+                     [f"(?<={body}){at}(?=aa$)", text, behind and tail == "aa"],
+                     [f"(?<=^aa){at}(?={body})", text, head == "aa" and ahead]]
+        yield searches(rows)
 
 
 # Quantifiers; and patterns that look far both ways within what they repeat, which are patterns of Python too.
@@ -2482,6 +2506,11 @@ def front_limit_rows():
     yield refusals(f"it takes more than {MOST_STEPS_OF_ALL} steps", refused)
     yield "in the same places, beside a lookbehind that looks far: there is a table where it is looked for by itself"
     yield tables([[f"{front}(?=ab)(?<=ba)c", around == 1] for front, _, around in fronts])
+    yield "the same terms with no `^`, and with one before and behind them, in each text of a and b"
+    for form in ("{}(?=ab)", "{}(?!ab)", "^{}(?=ab)", "^{}(?!ab)", "{}^(?=ab)", "{}^(?!ab)"):
+        patterns = [form.format(term) for term in {**NOTHINGS, **UNREAD, **OTHERS}]
+        yield searches([[pattern, word, re.search(in_python(pattern), word) is not None]
+                        for pattern in patterns for word in words("ab", range(4))])
 
 
 def classes_of_bits(number):
@@ -2559,6 +2588,12 @@ def kind_rows():
                  [f"^\\P{{{name}}}+\\p{{{name}}}+$", lacking + having, bool(lacking)],
                  [f"^\\P{{{name}}}*\\p{{{name}}}{{2,}}", lacking + having[0], False]]
     yield searches(rows)
+    yield "a property and a character behind what lacks the property, and the same character"
+    rows = []
+    for (name, having), one, character in itertools.product(KINDS.items(), "1.\u03a9", CHARACTERS_OF_KINDS):
+        rows += [[f"^[\\p{{{name}}}{one}]+[\\P{{{name}}}{one}]$", one + character,
+                  character == one or character not in having]]
+    yield searches(rows)
 
 
 def ahead_rows():
@@ -2575,6 +2610,7 @@ def ahead_rows():
     yield from front_rows()
     yield from far_rows()
     yield from near_both_rows()
+    yield from edge_rows()
     yield from repeated_look_rows()
     yield from front_limit_rows()
     yield from table_rows()
