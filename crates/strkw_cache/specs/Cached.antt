@@ -1,4 +1,5 @@
--- What a schema object is compiled to under the terms of a request, and what a cached one stands for.
+-- What a schema object is compiled to under the terms of a request, and what a cached one stands
+-- for.
 use Rattle.std.specs.Prelude.{◌≡◌, ◌⊎◌, [], Some, None, Result, Ok, Err, false}
 use Rattle.serde_json.specs.Data.{Members, object}
 use Rattle.strkw_json.specs.Passing.{value_read}
@@ -18,8 +19,8 @@ use Rattle.strkw_cache.specs.Tokens.{tokens_owned}
 use Rattle.strkw_cache.specs.declared.cache.CachedObject.{CachedObject}
 use Rattle.strkw_cache.specs.declared.terms.Terms.{Terms}
 
--- What the schema object of a request is compiled under. It stands at the root, there is no absolute
--- prefix, no check is registered, and the builder takes no pattern.
+-- What the schema object of a request is compiled under. It stands at the root, there is no
+-- absolute prefix, no check is registered, and the builder takes no pattern.
 abbrev pub settings_under : Terms → Settings
 settings_under t = record {
   draft = t.draft;

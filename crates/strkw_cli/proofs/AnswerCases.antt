@@ -78,7 +78,8 @@ appended_more (Err e) old mid new front first second = (front ++ second.0, secon
 
 -- where a call changed nothing, what the next one left behind stands behind what was there before
 pub grown_anyway : {T E : Type 0} (result : Result T E) (P : List ℕ → Type 0) (old mid new : List ℕ) → mid ≡ old
-    → OnOk result ((made : List ℕ) × (new ≡ mid ++ made) × P made) → OnErr result ((more : List ℕ) × (new ≡ mid ++ more)) → (more : List ℕ) × (new ≡ old ++ more)
+    → OnOk result ((made : List ℕ) × (new ≡ mid ++ made) × P made) → OnErr result ((more : List ℕ) × (new ≡ mid ++ more))
+    → (more : List ℕ) × (new ≡ old ++ more)
 grown_anyway (Ok x) P old mid new same (made, is, holds) err = (made, is ∙ ap (λ l. l ++ made) same)
 grown_anyway (Err e) P old mid new same ok (more, is) = (more, is ∙ ap (λ l. l ++ more) same)
 

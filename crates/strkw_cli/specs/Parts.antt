@@ -37,7 +37,8 @@ part_after name taken own was = if bytes_eq name taken then own else was
 
 -- A member of this name and value was taken: its part is replaced, and the others are as they were.
 -- The values are read anew with the schema object, and with no other part.
-pub record Takes (cached : Bool) (name : List ℕ) (d : Data) (v w : OwnedValues) (p q : Parts) : Type 0
+pub record Takes (cached : Bool) (name : List ℕ) (d : Data) (v w : OwnedValues)
+    (p q : Parts) : Type 0
   where
     pub draft : q.draft ≡ part_after (codes "draft") name (draft_in d) p.draft
     pub schema : MatchBool (bytes_eq (codes "schema") name)

@@ -7,7 +7,8 @@ use Rattle.std.specs.List.{concat, AllByRecursion}
 use Rattle.strkw_text.specs.Abnf.{Form, ◌⨾◌, ◌∣◌, Literal, Empty, Optional, Repeat, Repeat1, Times}
 use Rattle.strkw_text.specs.Abnf.{Exactly, OneOf, SeparatedBy}
 use Rattle.strkw_text.proofs.Laws.{Repeat-cases}
-use Rattle.strkw_companions.specs.Decisions.{Decision, by_other, decide_both, decide_either, is_so, same_text}
+use Rattle.strkw_companions.specs.Decisions.{Decision, by_other, decide_both, decide_either, is_so}
+use Rattle.strkw_companions.specs.Decisions.{same_text}
 use Rattle.strkw_companions.specs.Decisions.{some_below, at_most}
 
 -- each text is derived, or it is not

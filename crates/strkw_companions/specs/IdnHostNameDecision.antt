@@ -14,7 +14,8 @@ use Rattle.strkw_label.specs.IdnHostName.{IsUnicodeLabel, a_label, IsPlainLabel,
 use Rattle.strkw_label.specs.IdnHostName.{encoded_form, is_label_separator, IsIdnHostName}
 use Rattle.strkw_label.proofs.EncodedLengths.{decoded_from_encoded}
 use Rattle.strkw_label.proofs.IdnLabels.{one_form}
-use Rattle.strkw_companions.specs.Decisions.{Decision, by_other, decide_both, decide_implication, is_so, same_text}
+use Rattle.strkw_companions.specs.Decisions.{Decision, by_other, decide_both, decide_implication}
+use Rattle.strkw_companions.specs.Decisions.{is_so, same_text}
 use Rattle.strkw_companions.specs.Decisions.{at_most}
 use Rattle.strkw_companions.specs.LabelDecision.{unicode_label, plain_label, bidi_rule, all_of}
 

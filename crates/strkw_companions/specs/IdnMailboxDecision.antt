@@ -9,11 +9,13 @@ use Rattle.strkw_mail.specs.IdnMailbox.{is_utf8_atext, is_utf8_qtext_smtp, octet
 use Rattle.strkw_mail.specs.IdnMailbox.{IsIdnLocalPart, IsIdnSubDomain, IdnDomain, IsIdnDomain}
 use Rattle.strkw_mail.specs.IdnMailbox.{IsIdnMailbox}
 use Rattle.strkw_mail.specs.Mailbox.{IsSubDomain}
-use Rattle.strkw_companions.specs.Decisions.{by_other, decide_both, decide_implication, is_so, at_most}
+use Rattle.strkw_companions.specs.Decisions.{by_other, decide_both, decide_implication, is_so}
+use Rattle.strkw_companions.specs.Decisions.{at_most}
 use Rattle.strkw_companions.specs.FormDecisions as form
 use Rattle.strkw_companions.specs.FormDecisions.{Decided, alternative}
 use Rattle.strkw_companions.specs.LabelDecision.{unicode_label, bidi_rule}
-use Rattle.strkw_companions.specs.MailboxDecision.{address, literal_between, local_part_of, sub_domain}
+use Rattle.strkw_companions.specs.MailboxDecision.{address, literal_between, local_part_of}
+use Rattle.strkw_companions.specs.MailboxDecision.{sub_domain}
 
 local_part : Decided IsIdnLocalPart
 local_part text = by_other (

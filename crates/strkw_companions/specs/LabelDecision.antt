@@ -32,7 +32,8 @@ use Rattle.strkw_label.specs.DerivedProperty.{derived_property, is_permitted}
 use Rattle.strkw_label.specs.LabelRules.{MiddleDotStands, is_mark}
 use Rattle.strkw_label.specs.IdnHostName.{HasReservedHyphens, IsUnicodeLabel, IsPlainLabel}
 use Rattle.strkw_label.specs.IdnHostName.{is_all_ascii}
-use Rattle.strkw_companions.specs.Decisions.{Decision, by_other, decide_both, decide_either, decide_negation, decide_implication}
+use Rattle.strkw_companions.specs.Decisions.{Decision, by_other, decide_both, decide_either}
+use Rattle.strkw_companions.specs.Decisions.{decide_negation, decide_implication}
 use Rattle.strkw_companions.specs.Decisions.{is_so, is_not_so, same_number, same_text, at_most}
 use Rattle.strkw_companions.specs.Decisions.{some_below, each_below}
 

@@ -19,10 +19,12 @@ use Rattle.strkw_mail.specs.AddressLiteral.{AddressLiteral}
 use Rattle.strkw_mail.specs.Mailbox.{AtomOf, DotStringOf, QuotedPairSmtp, QcontentOf}
 use Rattle.strkw_mail.specs.Mailbox.{QuotedStringOf, LocalPartOf, IsLocalPart, SubDomain}
 use Rattle.strkw_mail.specs.Mailbox.{IsSubDomain, Domain, IsDomain, IsMailbox}
-use Rattle.strkw_companions.specs.Decisions.{Decision, by_other, decide_both, decide_negation, same_text, at_most}
+use Rattle.strkw_companions.specs.Decisions.{Decision, by_other, decide_both, decide_negation}
+use Rattle.strkw_companions.specs.Decisions.{same_text, at_most}
 use Rattle.strkw_companions.specs.Decisions.{some_below}
 use Rattle.strkw_companions.specs.FormDecisions as form
-use Rattle.strkw_companions.specs.FormDecisions.{Decided, sequence, alternative, repeat, exact_repeat}
+use Rattle.strkw_companions.specs.FormDecisions.{Decided, sequence, alternative, repeat}
+use Rattle.strkw_companions.specs.FormDecisions.{exact_repeat}
 
 -- A, and then a literal, and then B
 pub literal_between : (A B : Form) (cs : List ℕ) → Decided A → Decided B

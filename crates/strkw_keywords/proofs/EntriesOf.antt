@@ -18,7 +18,8 @@ use Rattle.strkw_keywords.specs.declared.content_rule.ContentRule.{ContentRule}
 use Rattle.strkw_keywords.specs.Object.{Settings, Entry, nothing, Keyed, content_rule, media_type_entry, encoding_entry, schema_entry, min_entry, max_entry}
 use Rattle.strkw_keywords.specs.Object.{entry_of, value_at, is_given, is_fused, least_entry, greatest_entry, keywords, IsEntryOf, IsEntryAt, AreEntriesOf}
 use Rattle.strkw_keywords.specs.Object.{share, shares, refusal}
-use Rattle.strkw_keywords.specs.Compiled.{AddsNothing, IsBuilt, IsBuiltAt, IsPatternBuilt, IsCompiledAt, single_entry, min_share, max_share, out_of_memory_refusal, refused_at}
+use Rattle.strkw_keywords.specs.Compiled.{AddsNothing, IsBuilt, IsBuiltAt, IsPatternBuilt, IsCompiledAt, single_entry, min_share, max_share}
+use Rattle.strkw_keywords.specs.Compiled.{out_of_memory_refusal, refused_at}
 
 -- ---- an entry that a value determines
 

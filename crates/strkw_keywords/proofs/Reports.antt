@@ -13,7 +13,8 @@ use Rattle.strkw_keywords.specs.declared.keyword.Keyword.{Keyword}
 use Rattle.strkw_keywords.specs.declared.keyword.Keyword.TheVariants.{ContentMediaType, ContentEncoding, Format}
 use Rattle.strkw_keywords.specs.Keywords.{keyword_name}
 use Rattle.strkw_keywords.specs.Demands.{Demand, is_media_type, is_encoded, encodes_media_type, is_format, at_least, at_most, compares, matches, Finding}
-use Rattle.strkw_keywords.specs.Demands.{HasFinding, FoundUnless, IsContentFinding, Decodes, CodecDecodes, finding_list, Finds, IsEncoded, IsOfFormat, IsOfMediaType}
+use Rattle.strkw_keywords.specs.Demands.{HasFinding, FoundUnless, IsContentFinding, Decodes, CodecDecodes, finding_list, Finds, IsEncoded, IsOfFormat}
+use Rattle.strkw_keywords.specs.Demands.{IsOfMediaType}
 use Rattle.strkw_keywords.specs.Choices.{chosen_codec_name, chosen_media_type_name, chosen_format_name}
 use Rattle.strkw_formats.specs.declared.builtin.BuiltinFormat.{BuiltinFormat}
 use Rattle.strkw_keywords.specs.Places.{Place, standing}

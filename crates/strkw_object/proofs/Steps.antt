@@ -7,7 +7,8 @@ use Rattle.strkw_keywords.specs.declared.validator.Validator.{Validator}
 use Rattle.strkw_keywords.specs.Places.{Place}
 use Rattle.strkw_keywords.specs.Errors.{assertions_at}
 use Rattle.strkw_keywords.specs.Validators.{assertions_of, assertions_in, remarks_in, listed_remark, remark_made}
-use Rattle.strkw_keywords.specs.Object.{Entry, nothing, malformed, gives, Keyed, refusal, refusal_or, all_demands, all_assertions, demands_by, all_remarks, remark_by}
+use Rattle.strkw_keywords.specs.Object.{Entry, nothing, malformed, gives, Keyed, refusal, refusal_or, all_demands, all_assertions, demands_by, all_remarks}
+use Rattle.strkw_keywords.specs.Object.{remark_by}
 use Rattle.strkw_keywords.specs.Compiled.{AddsNothing, StandsFor}
 use Rattle.strkw_keywords.proofs.Asserted.{assertions_at-append}
 use Rattle.strkw_object.proofs.Many.{in-append, noted-append}

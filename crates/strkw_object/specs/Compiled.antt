@@ -6,7 +6,8 @@ use Rattle.strkw_keywords.specs.Demands.{Demand}
 use Rattle.strkw_keywords.specs.Errors.{Assertion}
 use Rattle.strkw_keywords.specs.Remarks.{Remark}
 use Rattle.strkw_keywords.specs.Validators.{demands_in, assertions_in, remarks_in}
-use Rattle.strkw_keywords.specs.Object.{Settings, Keyed, AreEntries, refusal, all_assertions, all_remarks}
+use Rattle.strkw_keywords.specs.Object.{Settings, Keyed, AreEntries, refusal, all_assertions}
+use Rattle.strkw_keywords.specs.Object.{all_remarks}
 use Rattle.strkw_formats.specs.Formats.{Window}
 use Rattle.strkw_keywords.specs.Lengths.{interval}
 use Rattle.strkw_object.specs.declared.strings.StringKeywords.{StringKeywords}

@@ -52,8 +52,12 @@ returns-after-len-before-clause-ok c r folds is compiled =
     let (errors, grown, reported) = c.in_ok-push_errors-in-Ok.ensures.ok in
     appended_answer rest.result literal_outcome r k no_lists fold node old mid rest.new.out.items folds is
     refl (subst (IsCompiledTo (settings_for r) r.schema) c.in-Ok.is compiled) (folded c)
-    (appended_text rest.result _ _ node text k mid c.if-len-before.out.items rest.new.out.items
-    (errors, written c errors grown, subst (λ lists. NodeReports (keywords_assertions literal_outcome k) lists root_site (Some text) errors) c.none.ensures reported)
+    (appended_text rest.result _ _ node text k mid c.if-len-before.out.items rest.new.out.items (
+      errors,
+      written c errors grown,
+      subst
+          (λ lists. NodeReports (keywords_assertions literal_outcome k) lists root_site (Some text) errors) c.none.ensures reported,
+    )
     (subst (λ x. OnOk rest.result ((told : List ℕ) × (rest.new.out.items ≡ c.if-len-before.out.items ++ told) × IsTold x told)) c.in-Ok.is
     rest.ensures.ok) (search rules))
 

@@ -39,7 +39,8 @@ loop-offset-preserved c =
     let piece = c.args.piece.now in
     let at = c.loop-offset.at in
     let offset = c.in-Some.offset in
-    let found : position is_line_feed (drop at piece) ≡ Some offset = ap (position is_line_feed) (sym (take_rest piece at)) ∙ sym (IsFirstByte-position is_line_feed _ c.memchr.result c.memchr.ensures)
+    let found : position is_line_feed (drop at piece) ≡ Some offset =
+    ap (position is_line_feed) (sym (take_rest piece at)) ∙ sym (IsFirstByte-position is_line_feed _ c.memchr.result c.memchr.ensures)
     ∙ c.in-Some.is in
     let line = ends_line start piece at offset found in
     let count : at + offset - at ≡ offset = omega arith in
@@ -61,7 +62,9 @@ loop-offset-preserved c =
     }
 
 no_more : (c : goal.After-extend_from_slice) → position is_line_feed (drop c.loop-offset.at c.args.piece.now) ≡ None
-no_more c = ap (position is_line_feed) (sym (take_rest c.args.piece.now c.loop-offset.at)) ∙ sym (IsFirstByte-position is_line_feed _ c.memchr.result c.memchr.ensures) ∙ c.in_default.is
+no_more c =
+    ap (position is_line_feed) (sym (take_rest c.args.piece.now c.loop-offset.at)) ∙ sym (IsFirstByte-position is_line_feed _ c.memchr.result c.memchr.ensures)
+    ∙ c.in_default.is
 
 pub returns-clause-answered : goal.returns-clause-answered
 returns-clause-answered c =

@@ -39,7 +39,8 @@ pub returns-then-room-piece-clause-taken : goal.returns-then-room-piece-clause-t
 returns-then-room-piece-clause-taken c start is short =
     let piece = c.args.piece.now in
     let none : position is_line_feed (drop c.loop-offset.at piece) ≡ None =
-    ap (position is_line_feed) (sym (take_rest piece c.loop-offset.at)) ∙ sym (IsFirstByte-position is_line_feed _ c.memchr.result c.memchr.ensures) ∙ c.in_default-memchr.is in
+    ap (position is_line_feed) (sym (take_rest piece c.loop-offset.at)) ∙ sym (IsFirstByte-position is_line_feed _ c.memchr.result c.memchr.ensures)
+    ∙ c.in_default-memchr.is in
     let reaches = c.loop-offset.invariant.reaches start is (subst (λ b. HasShortLines b start) c.in-Some.is short) in
     rw c.in-Some.is (taken_short c.in-Some.longest start piece c.loop-offset.at c.loop-offset.room reaches none c.if-room-piece.true)
 
@@ -47,6 +48,7 @@ pub returns-else-room-piece-clause-taken : goal.returns-else-room-piece-clause-t
 returns-else-room-piece-clause-taken c start is short =
     let piece = c.args.piece.now in
     let none : position is_line_feed (drop c.loop-offset.at piece) ≡ None =
-    ap (position is_line_feed) (sym (take_rest piece c.loop-offset.at)) ∙ sym (IsFirstByte-position is_line_feed _ c.memchr.result c.memchr.ensures) ∙ c.in_default-memchr.is in
+    ap (position is_line_feed) (sym (take_rest piece c.loop-offset.at)) ∙ sym (IsFirstByte-position is_line_feed _ c.memchr.result c.memchr.ensures)
+    ∙ c.in_default-memchr.is in
     let reaches = c.loop-offset.invariant.reaches start is (subst (λ b. HasShortLines b start) c.in-Some.is short) in
     rw c.in-Some.is (taken_all c.in-Some.longest start piece c.loop-offset.at c.loop-offset.room reaches none c.if-room-piece.false)
