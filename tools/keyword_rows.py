@@ -1036,6 +1036,68 @@ def lines_that_share_a_schema():
     yield lined(*[{**first, "draft": it} for it in DRAFTS] * 8, {**first, "instance": LONGER})
 
 
+# The texts of an instance as they are written between quotation marks: without an escape, with one, and no JSON.
+WRITTEN = ("", "x", "xx", "2024-02-29", LONGER, "\u00e9", "\u6f22", "\U0001f600", "x" * 15, "x" * 16, "x" * 17,
+           "x" * 300, "\u00e9" * 40, "}", "{", ":", ",", "[1]", "'", "/", "\x7f", "\u0080", "\u2028", r"\"",
+           r"\\", r"\/", r"\b", r"\f", r"\n", r"\r", r"\t", r"\u0041", r"\u00E9", r"\uD83D\uDE00", r"x\"}",
+           r"\"}", r"xxxx\\", r"\"},\"", r"\x", r"\u12", r"\uD83D", r"\uDE00", "\\", "x\\", '"', '""', 'x"x', '"x', 'x"', '"}',
+           'x","instance":"xx', 'x","draft":"7', 'x","other":"x', 'x","schema":"x', 'x","fold":true,"instance":"xx',
+           'x","fold":"true', 'x"},{"a":"x', 'x"}{"a":"x', *(chr(it) for it in range(1, 32) if it != 10),
+           *(chr(it) for it in range(32, 127) if it not in (34, 92)))
+
+
+def answer_to_text(text):
+    """The answer to a line that is a JSON text or none. Python also reads a surrogate that is alone."""
+    try:
+        value = parsed(text)
+        compact(value).encode("utf-8")
+    except ValueError:
+        return ["bad request", "end"]
+    return answer_to_line(value)
+
+
+def written(first, *lines):
+    """The row of an input to `run`: so many lines alike that they share an object, and then lines as they stand."""
+    told = [it for it in answer_to_line(numbered(first)) * 17]
+    told += [it for line in lines for it in answer_to_text(line)]
+    assert len("\n".join(told)) < LONGEST_SHOWN
+    return made(compact({"input": [[compact(first) + "\n", Number("17")], *(line + "\n" for line in lines)]}),
+                ["\n".join(told)])
+
+
+def texts_of_a_shared_schema():
+    """A line whose text stands in it as it is, and one that is written in another way, mean the same."""
+    for schema in (SHARED[0], SHARED[1], SHARED[2], SHARED[4], SHARED[5],
+                   parsed('{"\u00e9\\n":"\\u0001\\"","minLength":2}'),
+                   parsed('{"maxLength":"1"}'), parsed('{"format":"date","minLength":2.5}')):
+        for draft in (7, 202012):
+            first = {"draft": draft, "schema": schema, "instance": 5}
+            front = compact(first)[:-2]
+            for at in range(0, len(WRITTEN), 8):
+                yield written(first, *(f'{front}"{text}"}}' for text in WRITTEN[at:at + 8]))
+    first = {"draft": 7, "schema": SHARED[1], "instance": 5}
+    for text in ("", "x", "x" * 40):
+        lines = [line.replace("O", compact(SHARED[1])).replace("T", text) for line in (
+            '{"draft":7,"schema":O,"instance":"T"} ', ' {"draft":7,"schema":O,"instance":"T"}',
+            '{"draft":7,"schema":O,"instance":"T" }', '{"draft":7,"schema":O,"instance": "T"}',
+            '{"draft":7,"schema":O,"instance" :"T"}', '{"draft":7,"schema":O ,"instance":"T"}',
+            '{"draft":7,"schema": O,"instance":"T"}', '{"draft": 7,"schema":O,"instance":"T"}',
+            '{"draft":7.0,"schema":O,"instance":"T"}', '{"draft":7e0,"schema":O,"instance":"T"}',
+            '{"draft":4,"schema":O,"instance":"T"}', '{"draft":77,"schema":O,"instance":"T"}',
+            '{"schema":O,"draft":7,"instance":"T"}', '{"instance":"T","draft":7,"schema":O}',
+            '{"draft":7,"schema":O,"instance":"T"', '{"draft":7,"schema":O,"instance":"T"}}',
+            '{"draft":7,"schema":O,"instance":"T}', '{"draft":7,"schema":O,"instance":T"}',
+            '{"draft":7,"schema":O,"instance":["T"]}', '{"draft":7,"schema":O,"instance":{"":"T"}}',
+            '{"draft":7,"schema":O,"Instance":"T"}', '{"draft":7,"schema":O,"instance":"T","fold":true}',
+            '{"draft":7,"schema":O,"instance":"T","validate_formats":true}',
+            '{"draft":7,"schema":O,"instance":"T"}\r', '{"draft":7,"schema":O,"instance":"T"}\t')]
+        for at in range(0, len(lines), 9):
+            yield written(first, *lines[at:at + 9])
+    for more in ({"validate_formats": False}, {"ignore_unknown_formats": False}, {"validate_formats": True}):
+        kept = {**first, **more}
+        yield written(kept, f'{compact(first)[:-2]}"x"}}', f'{compact(kept)[:-1]},"instance":"x"}}')
+
+
 SECTIONS = (
     ("values of each shape", values_of_each_shape), ("values beside a media type", values_beside_a_media_type),
     ("values that nest", deep_values),
@@ -1063,6 +1125,7 @@ SECTIONS = (
     ("lines with a bound", bounded_lines),
     ("each character of ASCII", controls), ("folds told", folds_told),
     ("lines that share a schema", lines_that_share_a_schema),
+    ("texts of a shared schema", texts_of_a_shared_schema),
 )
 
 

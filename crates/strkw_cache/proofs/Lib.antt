@@ -1,3 +1,4 @@
 pub mod Reading
 pub mod Compiling
 pub mod Telling
+pub mod Asking

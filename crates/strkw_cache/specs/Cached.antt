@@ -1,6 +1,7 @@
 -- What a schema object is compiled to under the terms of a request, and what a cached one stands
 -- for.
-use Rattle.std.specs.Prelude.{◌≡◌, ◌⊎◌, [], Some, None, Result, Ok, Err, false}
+use Rattle.std.specs.Prelude.{◌≡◌, ◌⊎◌, [], IfSome, Some, None, Result, Ok, Err, false}
+use Rattle.std.specs.Prelude.{string_bytes}
 use Rattle.serde_json.specs.Data.{Members, object}
 use Rattle.strkw_json.specs.Passing.{value_read}
 use Rattle.strkw_report.specs.Refusals.{refusal_of}
@@ -14,6 +15,7 @@ use Rattle.strkw_keywords.specs.Object.{Settings, default_options, FirstRefusal}
 use Rattle.strkw_object.specs.declared.strings.StringKeywords.{StringKeywords}
 use Rattle.strkw_object.specs.Compiled.{IsCompiledFrom}
 use Rattle.strkw_cache.specs.Depths.{member_depth}
+use Rattle.strkw_cache.specs.Fronts.{IsFront}
 use Rattle.strkw_cache.specs.Told.{CanAnswer, IsTold}
 use Rattle.strkw_cache.specs.Tokens.{tokens_owned}
 use Rattle.strkw_cache.specs.declared.cache.CachedObject.{CachedObject}
@@ -46,12 +48,14 @@ IsCompiledTo s ms (Err e) = (refusal_of e ≡ out_of_memory_refusal)
     ⊎ FirstRefusal s ms (Some (refusal_of e))
 
 -- The tokens of the object are those of these members, and nothing more, these are compiled to what
--- it has, and what it keeps of answers is what that tells.
+-- it has, what it keeps of answers is what that tells, and its front is that of a line.
 pub record Keeps (o : CachedObject) (ms : Members) : Type 0 where
   pub read : value_read member_depth (tokens_owned o.tokens.items) ≡ Some (object ms, [])
   pub is_compiled : IsCompiledTo (settings_under o.terms) ms o.compiled
   pub can_answer : CanAnswer o.compiled
   pub is_told : IsTold o.compiled o.told.items
+  pub is_front : IfSome o.front (λ text. IsFront o.terms (tokens_owned o.tokens.items)
+      (string_bytes text))
 
 -- it keeps some members
 abbrev pub IsCached : CachedObject → Type 0

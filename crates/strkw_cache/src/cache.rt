@@ -8,7 +8,10 @@ ghost use Rattle.strkw_json.specs.Passing.{value_read};
 ghost use Rattle.strkw_object.specs.Values.{AreOwnedOf};
 ghost use Rattle.strkw_cache.specs.Cached.{IsCached, Keeps};
 ghost use Rattle.strkw_cache.specs.Depths.{member_depth};
+ghost use Rattle.strkw_cache.specs.Fronts.{Asks};
+ghost use Rattle.strkw_cache.specs.Tokens.{tokens_owned};
 
+use super::fronts::{are_plain, front_of};
 use super::terms::{Compiled, Terms, compile};
 use super::tokens::{OwnedToken, take_same, tokens_in};
 use super::told::push_told;
@@ -39,6 +42,8 @@ pub struct CachedObject {
     pub compiled: Compiled,
     /// What each answer by it tells behind the errors of a text. Of a refusal it is the whole answer.
     pub told: Vec<u8>,
+    /// The front of the shortest line that asks it of a text, up to the text, where there is one.
+    pub front: Option<String>,
 }
 
 impl CachedObject {
@@ -62,12 +67,14 @@ impl CachedObject {
         let compiled = compile(alloc, terms, values);
         let mut told = Vec::new(alloc);
         push_told(alloc, &compiled, None, &mut told)?;
+        let front = front_of(alloc, terms, &tokens)?;
         Ok(Some(CachedObject {
             text: Vec::from_slice(alloc, bytes)?,
             tokens,
             terms,
             compiled,
             told,
+            front,
         }))
     }
 
@@ -97,6 +104,21 @@ impl CachedObject {
         ensures shorter { IsTrue result → length tokens.new < length tokens.old }
     {
         take_same(&self.tokens, tokens)
+    }
+
+    /// The text that a line asks the object of, where the line is the front, a text with no escape, and what ends it.
+    pub fn text_asked<'a>(&self, line: &'a str) -> Option<&'a str>
+        requires { IsCached self.now }
+        ensures { IfSome result (λ text. Asks self.now.terms
+            (tokens_owned self.now.tokens.items) text.now line.now) }
+    {
+        let rest = line.strip_prefix(self.front.as_ref()?.as_str())?;
+        let text = rest.strip_suffix("\"}")?;
+        if are_plain(text.as_bytes()) {
+            Some(text)
+        } else {
+            None
+        }
     }
 }
 

@@ -3,6 +3,7 @@
 #![tactic(auto)]
 
 mod cache;
+mod fronts;
 mod terms;
 mod tokens;
 mod told;

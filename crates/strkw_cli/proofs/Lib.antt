@@ -8,6 +8,7 @@ pub mod BoundLemmas
 pub mod RunLemmas
 pub mod AnswerExistence
 pub mod Asked
+pub mod Sharing
 pub mod Parts
 pub mod Scalars
 pub mod Verdicts

@@ -231,8 +231,9 @@ fn parts_in<'a>(
 }
 
 /// The request that a line is, or `None` where it is none. The scratch is held from line to line, and a schema object
-/// may be cached, which is then not read anew; of another one the values are read. It differs where the line has the text
-/// of the object that is cached, and other tokens.
+/// may be cached, which is then not read anew; of another one the values are read. A line that asks the cached object of
+/// a text, and has no option, is told by its bytes. It differs where the line has the text of the object that is cached,
+/// and other tokens.
 pub(super) fn read_request<'a>(
     alloc: Global,
     line: &'a [u8],
@@ -250,6 +251,16 @@ pub(super) fn read_request<'a>(
     let Ok(text) = simdutf8::basic::from_utf8(line) else {
         return Ok(None);
     };
+    if let Some(object) = cached {
+        if let Some(asked) = object.text_asked(text) {
+            return Ok(Some(Request {
+                terms: object.terms,
+                schema: Schema::Cached(object),
+                instance: Some(asked),
+                fold: false,
+            }));
+        }
+    }
     if text.len() < SHORTEST_OBJECT {
         return Ok(None);
     }

@@ -152,11 +152,12 @@ fn piece_room(alloc: Global) -> Result<Vec<u8>, AllocError>
 /// `TooLong` after 2^64 - 1 reads that each gave bytes. Each answer is made whole before its first byte is written.
 /// What is written after `Read`, `Memory` and `TooLong` are whole answers, to lines whose line feed was read.
 ///
-/// The run holds the longest line so far, a piece of 64 KiB, the answers to the lines that end in one piece, and what
-/// one request takes: a byte for each byte of the longest line, its schema object, and its answer. Where lines share a
-/// schema object whose text has at most 64 KiB, it holds this object too, with its text, its tokens and what it is
-/// compiled to. Measured on the program, in bytes of memory at the peak for each byte of a long line: 2 where it is no
-/// JSON, and where its instance is valid, whatever it is, and 6 where that is a text with four errors.
+/// The run holds the longest line so far, a piece of 64 KiB, the answers to the lines that end in one piece, and
+/// what one request takes: a byte for each byte of the longest line, its schema object, and its answer. Where lines
+/// share a schema object whose text has at most 64 KiB, it holds this object too, with its text twice, its tokens
+/// and what it is compiled to. Measured on the program, in bytes of memory at the peak for each byte of a long
+/// line: 2 where it is no JSON, and where its instance is valid, whatever it is, and 6 where that is a text with
+/// four errors.
 pub fn run<S: Source, K: Sink>(alloc: Global, source: &mut S, sink: &mut K) -> Result<(), RunFault>
     requires source_works { S.has_failed source.old ≡ false }
     requires sink_works { K.has_failed sink.old ≡ false }

@@ -1,4 +1,4 @@
-use Rattle.std.proofs.Common.{◌≡◌, ◌∷◌, [], false, Some, sym, ap, ◌∙◌, subst, arith}
+use Rattle.std.proofs.Common.{◌≡◌, ◌∷◌, [], false, IfSome, Some, refl, sym, ap, ◌∙◌, subst, arith}
 use Rattle.json.specs.Token.{begin_object}
 use Rattle.json.specs.Lex.{tokens}
 use Rattle.json.specs.Reads.{token_of}
@@ -6,6 +6,10 @@ use Rattle.strkw_cli.specs.Both.{AreBoth}
 use Rattle.strkw_cli.specs.Borrowed.{IsRequest}
 use Rattle.strkw_cli.specs.Tokens.{begins_object}
 use Rattle.strkw_cli.proofs.Asked.{asked, asked_with_more, line_of_text, no_members_read, no_object_read, no_short_request}
+use Rattle.strkw_cache.specs.Cached.{IsCached}
+use Rattle.strkw_cache.specs.Fronts.{Asks}
+use Rattle.strkw_cache.specs.Tokens.{tokens_owned}
+use Rattle.strkw_cli.proofs.Sharing.{line_asks, shared}
 use Rattle.strkw_cli.proofs.request.read_request.Goals as goal
 use Rattle.strkw_cli.proofs.request.read_request.Goals.{in_default-next-via-in-Some+in_default, in_default-next-via-in_default}
 
@@ -38,12 +42,12 @@ returns-in-None-clause-right c =
     let (ms, read, are) = c.in-Ok-parts_in.ensures.ok in
     c.into_request.ensures.right _ are.right
 
-pub returns-in-Some-clause-ok : goal.returns-in-Some-clause-ok
-returns-in-Some-clause-ok c =
+pub returns-in-Some-next-clause-ok : goal.returns-in-Some-next-clause-ok
+returns-in-Some-next-clause-ok c =
     let text = c.in-Ok.text.now in
     let first : tokens text ≡ begin_object ∷ c.next.new.self = grind arith in
     let (ms, read, are) = c.in-Ok-parts_in.ensures.ok in
-    let more : c.parts_in.new.tokens ≡ token_of c.in-Some.field-0 ∷ c.next-in-Ok-parts_in.new.self = grind arith in
+    let more : c.parts_in.new.tokens ≡ token_of c.in-Some-next.field-0 ∷ c.next-in-Ok-parts_in.new.self = grind arith in
     line_of_text c.args.line.now text _ c.in-Ok.ensures.0 c.in-Ok.ensures.1
     (asked_with_more text _ ms _ _ first (read ∙ ap (λ rest. Some (ms, rest)) more))
 
@@ -52,3 +56,26 @@ returns-in-Err-NotJson-clause-ok c =
     let text = c.in-Ok.text.now in
     let first : tokens text ≡ begin_object ∷ c.next.new.self = grind arith in
     line_of_text c.args.line.now text _ c.in-Ok.ensures.0 c.in-Ok.ensures.1 (no_members_read text _ first (c.parts_in.ensures.none (grind arith)))
+
+pub returns-in-Some-text_asked-clause-ok : goal.returns-in-Some-text_asked-clause-ok
+returns-in-Some-text_asked-clause-ok c =
+    let object = c.in-Some.object.now in
+    let text = c.in-Ok.text.now in
+    let asked = c.in-Some-text_asked.asked.now in
+    let schema = tokens_owned object.tokens.items in
+    let (ms, keeps) = subst (λ o. IfSome o (λ held. IsCached held.now)) c.in-Some.is c.requires in
+    let asks : Asks object.terms schema asked text = c.in-Some-text_asked.ensures in
+    let request = shared object.terms schema asked text ms asks keeps.read in
+    let (found, is, same) = line_of_text c.args.line.now text (Some request) c.in-Ok.ensures.0 c.in-Ok.ensures.1
+    (line_asks object.terms schema asked text ms asks keeps.read) in (
+      found,
+      is,
+      (
+        request,
+        same,
+        record {
+          object = keeps;
+          others = refl;
+        },
+      ),
+    )
