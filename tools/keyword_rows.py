@@ -13,7 +13,7 @@ from dataclasses import dataclass
 from itertools import combinations, product
 from pathlib import Path
 
-from keyword_meaning import (KEYWORDS, MEMBERS, Number, answer, answer_to_line, compact, named_lines, parsed,
+from keyword_meaning import (CHECKS, KEYWORDS, MEMBERS, Number, answer, answer_to_line, compact, named_lines, parsed,
                              place, said)
 from keyword_texts import (DRAFTS, ENCODERS, FORMAT_NAMES, FORMATS, JSON_TEXTS, MOST, NO_ENCODINGS, NO_JSON_TEXTS,
                            UNKNOWN_CODECS, UNKNOWN_FORMATS, UNKNOWN_MEDIA_TYPES, encoded_bytes, encodings, format_in,
@@ -327,6 +327,26 @@ def folding_by_lengths_alone():
         yield asked(draft, {**other, keyword: end}, **lists)
 
 
+def folding_beside_others():
+    """The lengths of a format count whatever stands beside it, and those of limits whatever is said of formats."""
+    beside = ({"contentMediaType": JSON}, {"contentEncoding": "base64"}, {"contentMediaType": "x", "contentSchema": {}},
+              {"pattern": "^a"}, {"x": -1})
+    for it, other in product(FORMATS, beside):
+        least, greatest = it.window
+        ends = [("maxLength", least - 1), ("maxLength", least)] if least else []
+        ends += [("minLength", greatest), ("minLength", greatest + 1)] if greatest < MOST else []
+        drafts = [draft for draft in (4, 7, 202012) if it.is_in(draft)]
+        for keyword, end in ends:
+            yield asked(drafts[-1], {**other, "format": it.name, keyword: end}, validate_formats=True)
+            yield asked(drafts[0], {keyword: end, "format": it.name, **other}, validate_formats=True,
+                        left_out=[name for name in other if name in KEYWORDS])
+    for draft, options in product(DRAFTS, OPTIONS):
+        for schema in ({"format": "date", "minLength": 11}, {"format": "date", "maxLength": 9}, {"minLength": 1},
+                       {"format": "custom", "minLength": 3, "maxLength": 2}, {"minLength": 3, "maxLength": 2}):
+            if not (options.get("formats_by_dialect") and "custom" in schema.values()):
+                yield asked(draft, schema, **options)
+
+
 def limits_of_64_bits():
     """Limits from 31 bits up to the greatest of 64."""
     for limit in (2 ** 31, 2 ** 32, 2 ** 53 + 1, 2 ** 63 - 1, 2 ** 63, MOST):
@@ -514,6 +534,69 @@ def patterns():
             yield asked(draft, {"pattern": pattern}, ["aa"], left_out=["pattern"])
 
 
+# ---- texts of each kind
+
+# What a reader may pass over, turn into something else or take for an end: no text, white space at each end and inside,
+# controls, signs that are escaped, digits, capitals, characters of each width, and texts that are long.
+KINDS_OF_TEXTS = ("", "a", " ", "a ", " a", "a b", "a\n", "\na", "a\r\n", "\t", "\0", "a\0b", "\x7f", "7", "07", "A",
+                  "\"", "a\"", "\\", "a\\n", "\u00e9", "e\u0301", "\u20ac", "\U0001f4a9", "a\u00a0", "\ufeffa",
+                  "a" * 33, "\u00e9" * 33, "a" * 65, "a" * 256 + "\U0001f4a9")
+# Literals of each kind, as a pattern writes them.
+KINDS_OF_LITERALS = {"a": "a", " ": " ", "a ": "a ", " a": " a", "a b": "a b", "7": "7", "07": "07", "A": "A",
+                     "\"": "\"", "a\"": "a\"", "\\\\": "\\", r"a\\n": "a\\n", "a" * 33: "a" * 33, "a" * 65: "a" * 65,
+                     "a" * 257: "a" * 257}
+# JSON strings of such texts, as they stand between the quotation marks.
+KINDS_OF_JSON = ("", " ", "a ", " a", "\x7f", "7", "A", r"\"", r"\\", r"\n", r"\u0000", "\u00e9", "e\u0301", "\u20ac",
+                 "\U0001f4a9", "\u00a0", "\ufeff", "\u00e9" * 33, "a" * 65)
+
+
+def texts_of_each_kind():
+    """Lengths, patterns, checks and content look at the whole text as it stands, of whatever kind it is."""
+    texts = list(KINDS_OF_TEXTS)
+    for limit in sorted({len(it) + more for it in texts for more in (0, 1)}):
+        for schema in ({"minLength": limit}, {"maxLength": limit}, {"minLength": limit, "maxLength": limit}):
+            yield asked(7, schema, texts if limit < 4 else [it for it in texts if len(it) > 3])
+    for script in CHECKS:
+        yield asked(7, {"format": "n"}, texts, formats=[["n", script]])
+        yield asked(7, {"contentMediaType": "n"}, texts, media_types=[["n", script]])
+        yield asked(7, {"contentMediaType": "n", "contentEncoding": "c"}, texts, media_types=[["n", script]],
+                    codecs=[["c", "plain"]])
+    yield asked(7, {"contentEncoding": "c"}, texts, codecs=[["c", "bytes"]])
+    yield asked(7, {"contentEncoding": "c"}, texts, codecs=[["c", "plain"]])
+    for outcome in ("match", "backtracking", "failed"):
+        for some in (texts[::2], texts[1::2]):
+            yield asked(7, {"pattern": "z+"}, texts, patterns=[["z+", it, outcome] for it in some])
+    yield asked(7, {"pattern": r"^\S*$"}, [*texts, *(it + " " for it in texts)])
+    every = "|".join(KINDS_OF_LITERALS)
+    for front, end in (("^", ""), ("^", "$"), ("^(y|", ")$")):
+        yield asked(7, {"pattern": front + "a" + end}, list(dict.fromkeys([*texts, *("a" + it for it in texts)])))
+        for pattern, text in KINDS_OF_LITERALS.items():
+            others = (text, text + "\n", text + " ", " " + text, text * 2, text[:-1], text.swapcase(), text + "\u00e9")
+            yield asked(7, {"pattern": front + pattern + end}, list(dict.fromkeys(others)))
+    for text in KINDS_OF_LITERALS.values():
+        yield asked(7, {"pattern": f"^({every})$"}, [text, text + "\n", text + " ", "\n" + text])
+    for text in texts:
+        size = len(text)
+        for schema in ({"minLength": size}, {"minLength": size + 1}, {"maxLength": size}, {"pattern": r"^\S*$"},
+                       {"pattern": f"^({every})$"}):
+            yield requested(7, schema, text)
+
+
+def content_of_each_kind():
+    """A text is JSON, or encodes JSON, whatever characters are in it; and it is none without its last one."""
+    texts = [f'"{it}"' for it in KINDS_OF_JSON]
+    texts += [it[:-1] for it in texts]
+    for draft in (6, 7):
+        yield asked(draft, {"contentMediaType": JSON}, texts)
+    for codec, encoder in ENCODERS.items():
+        encoded = [encoder(it.encode()).decode() for it in texts]
+        yield asked(7, {"contentMediaType": JSON, "contentEncoding": codec}, encoded)
+        yield asked(6, {"contentMediaType": JSON, "contentEncoding": codec}, encoded[1::3])
+        yield asked(7, {"contentEncoding": codec}, encoded[::2])
+        for text in encoded[::3]:
+            yield requested(7, {"contentMediaType": JSON, "contentEncoding": codec}, text)
+
+
 # ---- the whole object
 
 BAD = {"contentMediaType": 1, "contentEncoding": 2, "contentSchema": parsed("[1.5]"),
@@ -547,12 +630,66 @@ def keywords_left_out():
             yield asked(draft, WHOLE, keyword=keyword, left_out=[keyword])
 
 
+# Texts that fail at each of these: base16 of what is no JSON text, base16 of what is no UTF-8, and no encoding.
+FAILING = ("7B", "ab", "!")
+CONTENT_THAT_FAILS = ({"contentMediaType": JSON}, {"contentEncoding": "base32"},
+                      {"contentMediaType": JSON, "contentEncoding": "base16", "contentSchema": True})
+FORMATS_THAT_FAIL = ({"format": "date"}, {"format": "custom"})
+LIMITS_THAT_FAIL = ({"minLength": 3}, {"maxLength": 0}, {"minLength": 3, "maxLength": 0})
+PATTERNS_THAT_FAIL = ({"pattern": "^z"}, {"pattern": "z+"}, {"pattern": "z*"})
+THAT_FAIL = (CONTENT_THAT_FAILS, FORMATS_THAT_FAIL, LIMITS_THAT_FAIL, PATTERNS_THAT_FAIL)
+LISTS_THAT_FAIL = {"validate_formats": True, "formats": [["custom", "none"]],
+                   "patterns": [["z+", "ab", "backtracking"], ["z+", "7B", "failed"],
+                                ["z*", "ab", "failed"], ["z*", "7B", "backtracking"]]}
+
+
+def errors_together():
+    """Each keyword tells its errors whichever others do, and they stand in the order of the keywords."""
+    for parts in product(*(({}, *some) for some in THAT_FAIL)):
+        schema = {keyword: it for part in reversed(parts) for keyword, it in part.items()}
+        for draft in {2: (7,), 4: (6, 7, 202012)}.get(sum(map(bool, parts)), ()):
+            yield asked(draft, schema, FAILING, **LISTS_THAT_FAIL)
+    for pattern, other in product(("^z$", "^(y|z)$", r"^\S*$"), (*CONTENT_THAT_FAILS, {"format": "custom"},
+                                                                 *LIMITS_THAT_FAIL)):
+        for schema in ({**other, "pattern": pattern}, {"pattern": pattern, **other}):
+            yield asked(7, schema, ["\t "], **LISTS_THAT_FAIL)
+            if "format" not in other:
+                yield requested(7, schema, "\t ")
+    for draft, content, limits, text in product((6, 7, 202012), CONTENT_THAT_FAILS, LIMITS_THAT_FAIL, FAILING):
+        yield requested(draft, {"pattern": "^z", **limits, "format": "date", **content}, text, validate_formats=True)
+
+
+SEGMENTS = (["a/b"], ["~"], ["", "\u00e9~1/"], ["$defs", "0"])
+
+
+def placed(number):
+    """Where a schema object and an instance stand in a row: all places differ."""
+    return {"location": SEGMENTS[number], "way": SEGMENTS[number - 1], "at": SEGMENTS[number - 2],
+            "absolute": f"https://example.com/{number}"}
+
+
+def places_of_each_kind():
+    """Each kind of error has all of its places, and so has each kind of refusal, whichever keyword is to blame."""
+    literal = ({"pattern": it} for it in ("^z$", "^(y|z)$"))
+    for draft, schema, number in product((6, 7, 202012), (*sum(THAT_FAIL, ()), *literal), (1, 2)):
+        yield asked(draft, schema, FAILING, **LISTS_THAT_FAIL, **placed(number))
+        for keyword in schema:
+            yield asked(draft, schema, FAILING[:2], keyword=keyword, **LISTS_THAT_FAIL, **placed(number))
+    for draft, number in product(DRAFTS, (1, 2)):
+        yield asked(draft, {"pattern": r"^\S*$"}, ["a b"], **placed(number))
+        for keyword, value in product(KEYWORDS, (5, -1, parsed("[1.5]"))):
+            beside = {"contentMediaType": JSON} if keyword in ("contentEncoding", "contentSchema") else {}
+            yield asked(draft, {**beside, keyword: value}, **placed(number))
+            yield asked(draft, {**beside, keyword: value}, keyword=keyword, **placed(number))
+        for more in ({"ignore_unknown_formats": False}, {"formats_by_dialect": True}):
+            yield asked(draft, {"format": "nonsense"}, validate_formats=True, **more, **placed(number))
+        yield asked(draft, {"pattern": "("}, **placed(number))
+
+
 def places():
     """The places of errors, notes and refusals, with segments that are escaped (RFC 6901)."""
-    segments = (["a/b"], ["~"], ["", "\u00e9~1/"], ["$defs", "0"])
-    for draft, (number, location) in product(DRAFTS, enumerate(segments)):
-        more = {"location": location, "way": segments[number - 1], "at": segments[number - 2],
-                "absolute": f"https://example.com/{number}"}
+    for draft, (number, location) in product(DRAFTS, enumerate(SEGMENTS)):
+        more = placed(number)
         yield asked(draft, WHOLE, ["ab"], validate_formats=True, **more)
         yield asked(draft, {"format": 5}, **more)
         yield asked(draft, {"contentMediaType": JSON, "contentEncoding": 5}, **more)
@@ -644,8 +781,11 @@ def lists_in_use():
                {"format": "date"},
                {"contentMediaType": "m", "contentEncoding": "c"}, {"contentMediaType": JSON, "contentEncoding": "c"},
                {"contentMediaType": "m", "contentEncoding": "base64", "format": "f"}, {"minLength": 1})
-    for draft, schema in product((6, 7, 202012), schemas):
-        yield asked(draft, schema, ["x"], lent=lent, validate_formats=True, **rows)
+    beside = ({"format": "f", "minLength": 1, "maxLength": 0, "pattern": "^x"}, {"pattern": "z+", "format": "f"},
+              {"contentMediaType": "m", "contentEncoding": "c", "contentSchema": True, "format": "f", "maxLength": 0})
+    for draft, schema in product(DRAFTS, (*schemas, *beside)):
+        more = {"patterns": [["z+", "x", "failed"]]} if schema.get("pattern") == "z+" else {}
+        yield asked(draft, schema, ["x"], lent=lent, validate_formats=True, **more, **rows)
         if len(schema) == 1 and draft == 7:
             yield asked(draft, schema, keyword=next(iter(schema)), lent=lent, **rows)
     rows = {"formats": [["date", "none"]], "media_types": [[JSON, "none"]], "codecs": [["base64", "odd"]]}
@@ -656,6 +796,18 @@ def lists_in_use():
             if keyword != "format":
                 yield asked(draft, {"contentMediaType": JSON, "contentEncoding": "base64"}, lent=lent,
                             **{"with": chosen}, **rows)
+
+
+def parts_of_lists():
+    """A row counts from its place in the part of the list that is handed in, at compile and where a text is asked."""
+    scripts = ("none", "all", "even", "none")
+    rows = {"formats": [["n", it] for it in scripts], "media_types": [["n", it] for it in scripts],
+            "codecs": [["n", it] for it in ("odd", "bytes", "plain", "odd")]}
+    schemas = ({"format": "n"}, {"contentMediaType": "n"}, {"contentEncoding": "n"}, {"format": "n", "minLength": 3},
+               {"contentMediaType": "n", "contentEncoding": "n"}, {"format": "date", "contentMediaType": JSON})
+    for draft, schema, (begin, end) in product((7, 202012), schemas, combinations(range(5), 2)):
+        some = [begin, end, begin, end, begin, end]
+        yield asked(draft, schema, ["ab", "7"], validate_formats=True, **{"with": some}, **rows)
 
 
 # The last ones are a draft's number but for the bits that a narrower integer has not.
@@ -1106,7 +1258,8 @@ SECTIONS = (
     ("formats by options", formats_by_options), ("texts of formats", texts_of_formats),
     ("registered formats", registered_formats), ("names of rows", registered_names),
     ("folding by windows", folding_by_windows),
-    ("folding by lengths alone", folding_by_lengths_alone), ("pointers", pointers), ("long names", long_names),
+    ("folding by lengths alone", folding_by_lengths_alone), ("folding beside others", folding_beside_others),
+    ("pointers", pointers), ("long names", long_names),
     ("texts at each bound", texts_at_bounds), ("characters not seen", characters_not_seen),
     ("ends that checks see", ends_that_checks_see),
     ("limits of 64 bits", limits_of_64_bits),
@@ -1115,9 +1268,11 @@ SECTIONS = (
     ("entries of content", entries_of_content), ("texts of encodings", texts_of_encodings),
     ("names of content one letter off", other_names_of_content), ("content over built-ins", content_over_built_ins),
     ("schemas beside media types", schemas_beside_media_types), ("patterns", patterns),
-    ("first refusals", first_refusals), ("keywords left out", keywords_left_out), ("places", places),
+    ("texts of each kind", texts_of_each_kind), ("content of each kind", content_of_each_kind),
+    ("first refusals", first_refusals), ("keywords left out", keywords_left_out),
+    ("errors together", errors_together), ("places", places), ("places of each kind", places_of_each_kind),
     ("many of one kind", many), ("texts in errors", texts_in_errors),
-    ("lists in use", lists_in_use), ("numbers that are no drafts", no_drafts),
+    ("lists in use", lists_in_use), ("parts of lists", parts_of_lists), ("numbers that are no drafts", no_drafts),
     ("requests", requests), ("lines of each shape", lines_of_each_shape),
     ("members and keywords that stand twice", members_that_stand_twice), ("names with escapes", names_with_escapes),
     ("values in requests", values_in_requests), ("other members", other_members),
