@@ -2141,9 +2141,12 @@ def look_syntax_rows():
 
 # What a lookahead may look for, over a, b and c, which is a pattern of Python too; and what only a longer look tells.
 GLANCES = ["", "a", "b", "[ab]", "[^a]", "[^]", "[]", "a|b", "a|$", "|b", "$", "^", "^|b", "\\b", "\\B", "\\w", ".",
-           "(?:a)", "(?:a|$)?", "a?", "(?=a)", "(?!a)", "(?!a|$)", "(?:|(?!b))"]
+           "(?:a)", "(?:a|$)?", "a?", "(?=a)", "(?!a)", "(?!a|$)", "(?:|(?!b))", "a{0}", "(?:ab){0,0}", "(?:){2}",
+           "(?:^|\\b)", "(?=[ab])", "(?!$)", "a|(?=b)", "(?=|b)"]
 FAR = ["ab", "a*", "a+", "a{2}", ".*b", "^a", "a$", "(?:a|ab)", "(?:ab)?", "(?<=a)", "(?<!a)", "(?=ab)", "(?!a*)",
-       "a|ba", "(?<=a)b", "(?=(?<=a))", "a{0,2}", "\\ba"]
+       "a|ba", "(?<=a)b", "(?=(?<=a))", "a{0,2}", "\\ba", "ba|a", "ab|$", "a*|b", "(?:ab|)", "(?:|ab)", "(?:ba|a)?",
+       "(?:a|ba)?", "(?=ba|a)", "(?!a|ba)", "(?<=)", "(?<!)", "(?<=)|a", "a|(?<!)", "a{1}", "a{0,1}", "a{1,2}", "a{0,}",
+       "(?:){0,2}", "(?:)*", "b{0}a", "ab{0}", "(?:)a", "a(?:)", "(?=a)b", "a(?=b)", "(?:a|$){2}", "(?:ab?){1,2}"]
 
 
 def stands_ahead(body, text, place):
@@ -2374,6 +2377,7 @@ def far_rows():
         ([["^((?!bb).)*$", 1]], [["ab", 50_000]], True), ([["^((?!bb).)*$", 1]], [["ab", 50_000], ["b", 1]], False),
         ([["a(?=.*c)", 1]], [["a", 100_000], ["c", 1]], True), ([["a(?=.*c)", 1]], [["c", 1], ["a", 100_000]], False)])
     yield from both_ways_rows()
+    yield from far_place_rows()
 
 
 def both_ways_rows():
@@ -2391,6 +2395,26 @@ def both_ways_rows():
         "(?<=a{1000}a{297})(?=b{1000}b{298})", "(?=a{1000}(?<=b{1000}c{595}))"])
 
 
+# Patterns that look far both ways, which are patterns of Python too; and texts that have what they look for at one
+# place, or beside it, or 64 characters away.
+FAR_APART = ["(?<=ab)(?=cd)", "(?=cd(?<=abcd))", "(?<=ab(?=cd(?<=abcd)))", "^(?:(?!abcd)(?<!cdxab).)*$"]
+PARTED = [[], [["x", 1]], [["x", 62]], [["x", 63]], [["x", 64]], [["x", 65]]]
+
+
+def far_place_rows():
+    """What looks far both ways, at places of long texts."""
+    yield ("what looks far both ways, up to two hundred characters from either end of a text, in one piece and in two "
+           "that stand apart")
+    rows = []
+    for far, parted in itertools.product((0, 1, *range(59, 67), *range(123, 131), 190, 191, 192, 193), PARTED):
+        for around in ([["x", far]], [["x", 3]]), ([["x", 3]], [["x", far]]):
+            for first, last in (("ab", "cd"), ("cd", "ab")):
+                parts = [*around[0], [first, 1], *parted, [last, 1], *around[1]]
+                text = "".join(part * times for part, times in parts)
+                rows += [[[[pattern, 1]], parts, re.search(pattern, text) is not None] for pattern in FAR_APART]
+    yield long_searches(rows)
+
+
 # What a lookbehind may look for that the character before its place tells, and what that does not tell.
 GLANCES_BEHIND = [
     "", "a", "b", "[ab]", "[^a]", "[^]", "[]", "a|b", "a|^", "|b", "$", "^", "^|b", "\\b", "\\B", "\\w", ".", "(?:a)",
@@ -2400,7 +2424,8 @@ FAR_BEHIND = [
     "ab", "ba", "a*", "a+", "a{2}", "a{1}", "a{0,1}", "a{0,2}", "a{1,2}", "a{0,}", "a{1,}", "(?:ab)?", "(?:ab)*",
     "a|ba", "ba|a", "ab|ba", "b.*", "^a", "(?<=ab)", "(?<!ab)", "(?=c)", "(?!c)", "(?=ca)", "(?!ca)", "(?<=a)b",
     "a(?<=ba)", "a\\b", "(?:a|^){2}", "(?:ab?){1,2}", "ab{0}", "(?:|ab)", "(?:^|ba)", "(?:(?=c)|b)", "b{0}a",
-    "(?:)(?:a|^)"]
+    "(?:)(?:a|^)", "ab|a", "ba|^", "(?:ba|a)?", "(?=)", "(?!)", "(?=)|a", "a|(?!)",
+    "(?:){0,2}", "(?:)*", "a(?:)", "(?:)a", "a(?<=a)", "(?<=b)a"]
 
 
 def in_python(body):
@@ -2462,6 +2487,34 @@ def edge_rows():
                      [f"(?<={body}){at}(?=aa$)", text, behind and tail == "aa"],
                      [f"(?<=^aa){at}(?={body})", text, head == "aa" and ahead]]
         yield searches(rows)
+    yield "`\\b` and `\\B` beside each ASCII character and others, in patterns that have no table"
+    rows = []
+    for character in ASCII + "\u00e9\u017f\u212a\u0660\uff21\U0001d400":
+        for edge, stands in (("\\b", not is_word(character)), ("\\B", is_word(character))):
+            rows += [[f"(?<=xa){edge}(?=[^]y)", f"xa{character}y", stands],
+                     [f"(?<=x[^]){edge}(?=ay)", f"x{character}ay", stands]]
+    yield searches(rows)
+
+
+# What a lookahead may begin with, and a lookbehind may end with: where they stand at an end of a text, it asks what
+# stands beyond.
+FIRST_BEHIND = ["(?<=^)", "(?<!^)", "(?<=a)", "(?<!a)", "(?<=ab)", "(?<!ab)", "(?<=^a)", "(?<!.)", "(?<=)", "(?<!)",
+                "(?<!b)"]
+LAST_AHEAD = ["(?=$)", "(?!$)", "(?=a)", "(?!a)", "(?=ab)", "(?!ab)", "(?=b$)", "(?!.)", "(?=)", "(?!)", "(?!b*$)"]
+
+
+def inner_look_rows():
+    """Lookarounds of what a lookaround looks for, at each end of it, where the pattern looks far both ways."""
+    yield ("a lookbehind first in what a lookahead looks for, and a lookahead last in what a lookbehind looks for, in "
+           "parts that look far both ways, in each text of a and b")
+    patterns = [f"(?{sign}{look}{body})" for look in FIRST_BEHIND for sign in "=!" for body in ("", "a", "ab", "b*$")]
+    patterns += [f"(?<{sign}{body}{look})" for look in LAST_AHEAD for sign in "=!" for body in ("", "a", "ab", "^b")]
+    patterns += [f"(?=a(?<=a{look}))" for look in LAST_AHEAD] + [f"(?<=(?={look}b)b)" for look in FIRST_BEHIND]
+    patterns += [f"^(?:(?!{look}b)[ab])*$" for look in FIRST_BEHIND]
+    patterns += [f"^(?:a|b(?<!b{look}))*$" for look in LAST_AHEAD]
+    for form in ("(?<!bbb)(?!bbb){}", "{}(?<!bbb)(?!bbb)"):
+        yield searches([[form.format(pattern), word, re.search(form.format(pattern), word) is not None]
+                        for pattern in patterns for word in words("ab", range(4))])
 
 
 # Quantifiers; and patterns that look far both ways within what they repeat, which are patterns of Python too.
@@ -2486,7 +2539,8 @@ def repeated_look_rows():
 NOTHINGS = {"": 0, "(?:)": 0, "a{0}": 0, "(?:ab){0}": 0, "(?:)(?:)": 0, "^": 1}
 UNREAD = {"$": 1, "\\b": 1, "\\B": 1, "(?<=a)": 3, "(?<!a)": 3, "(?=a)": 3, "(?!a)": 3}
 OTHERS = {"a": 1, "a?": 1, "a*": 1, "a+": 1, "(?:a|b)": 5, "(?:ab)": 2, "(?:^|)": 4, "(?:^^)": 2, "(?:a)": 1, "[^]": 1,
-          "(?:^)": 1, "(?:$)": 1, "(^)": 1}
+          "(?:^)": 1, "(?:$)": 1, "(^)": 1, "a{1}": 1, "a{2}": 2, "a{0,}": 1, "a{1,}": 2, "a{0,1}": 1, "a{0,2}": 2,
+          "a{1,2}": 2, "(?:ab){2}": 4, "(?:ab){0,1}": 5, "(?:){1}": 0, "(?:){2}": 0}
 
 
 def front_limit_rows():
@@ -2511,6 +2565,45 @@ def front_limit_rows():
         patterns = [form.format(term) for term in {**NOTHINGS, **UNREAD, **OTHERS}]
         yield searches([[pattern, word, re.search(in_python(pattern), word) is not None]
                         for pattern in patterns for word in words("ab", range(4))])
+
+
+# What stands beside look-arounds that look far both ways in one part, and its steps there: each look-around takes one
+# more than elsewhere, and a look-ahead has the alternatives that any pattern has (specs/Size.antt).
+STEPS_BOTH_WAYS = {
+    "(?=a)": 4, "(?!a)": 4, "(?<=a)": 4, "(?<!a)": 4, "(?=)": 3, "(?!)": 3, "(?<=)": 3, "(?<!)": 3, "(?=^)": 4,
+    "(?<=$)": 4, "(?=\\b)": 4, "(?=\\p{L})": 5, "(?<!\\s)": 5, "(?=a|b)": 8, "(?<=a|b)": 8, "(?=a|b|c)": 10,
+    "(?<!a|b|c)": 10, "(?=a?)": 4, "(?<=a?)": 4, "(?=a*)": 4, "(?=(?:ab)?)": 8, "(?=a{7})": 10, "(?<=abc)": 6,
+    "(?=(?=a))": 7, "(?<=(?=a))": 7, "(?=(?<=a))": 7, "(?!(?<!(?=a)))": 10, "(?=a(?=b)c)": 9, "(?=(?=a)|(?=b))": 14,
+    "(?:(?=a))*": 6, "(?:(?=a)b)+": 7, "(?:(?=a))?": 7, "(?:(?=a)){3}": 12, "(?:(?=a)){2,}": 14, "(?:(?=a)){1,3}": 18,
+    "(?:(?=a)){0}": 0, "(?:(?:(?=a)b)*){2}": 14, "(?:(?=a)|b)": 8, "(?:b|(?=a))": 8, "(?:(?=a)|b|c)": 10,
+    "(?:b|(?=a)|c)": 10, "(?:b|c|(?=a))": 10, "(?:(?:(?=a))?|b)": 11, "(?:b|(?:(?=a))?)": 11, "(?:|(?=a))": 7,
+    "(?:(?=a)|)": 7, "((?=a)b)": 5, "(?:(?<=a)|b)": 8, "(?:b|(?<!a)|c)": 10, "(?:(?<=a))*": 6, "(?:(?<=a)){3}": 12,
+    "a*": 1, "(?:ab)*": 4, "(?:a|b)?": 8, "a{2,5}": 5}
+# The same beside a look-ahead that looks far, in a part that is searched from the end of the text on: look-aheads take
+# the steps of look-behinds there, and the other way round.
+STEPS_TURNED = {
+    "(?<=a)": 3, "(?<!a)": 3, "(?<=)": 2, "(?<!)": 2, "(?<=^)": 3, "(?<=\\B)": 3, "(?<=\\p{L})": 4, "(?<=a|b)": 7,
+    "(?<=a|b|c)": 11, "(?<!a|b|c)": 11, "(?<=a?)": 6, "(?<=(?:a|b)?)": 10, "(?<=|a)": 6, "(?<=(?<=a))": 5,
+    "(?<=(?<!a|b))": 9, "(?:(?<=a|b|c)d)+": 14, "(?=a)": 3, "(?=)": 2, "(?=a|b|c)": 9, "(?!a|b|c)": 9, "(?=a?)": 3,
+    "(?=a*)": 3, "(?=(?:a|b)?)": 10, "(?=(?=a))": 5, "(?=ab|cd|ef)": 12, "(?=a(?=b)c)": 7, "(?!(?!a|b|c))": 11,
+    "(?:(?=a|b|c)d){2}": 20, "(?:(?=a|b|c)|d)": 13}
+
+
+def look_limit_rows():
+    """Terms in parts that look far, at the most steps of a whole pattern and a step more."""
+    yield ("the steps of each term beside look-arounds that look far both ways, and beside a look-ahead that looks "
+           "far, at the most steps of a whole pattern and one more")
+    taken, refused = [], []
+    beside = [(form, 10, STEPS_BOTH_WAYS) for form in ("(?<=ab)(?=ab){}", "{}(?<=ab)(?=ab)", "(?<=ab{})(?=ab)",
+                                                       "(?<=ab)(?={}ab)", "(?:(?<=ab){}(?=ab))")]
+    beside += [(form, 4, STEPS_TURNED) for form in ("(?=de){}", "{}(?=de)", "(?:{}(?=de))")]
+    for form, own, terms in beside:
+        for term, steps in terms.items():
+            left = MOST_STEPS_OF_ALL - 2 * MOST_TIMES - own - steps
+            for more, patterns in enumerate((taken, refused)):
+                patterns.append(f"{form.format(term)}x{{{MOST_TIMES}}}y{{{MOST_TIMES}}}z{{{left + more}}}")
+    yield refusals("taken", taken)
+    yield refusals(f"it takes more than {MOST_STEPS_OF_ALL} steps", refused)
 
 
 def classes_of_bits(number):
@@ -2564,6 +2657,85 @@ def table_rows():
     yield searches(rows)
 
 
+# How large a table may be (docs/DECISIONS.md): its rows times its columns times the steps of the pattern's instructions
+# and classes, its rows, and its entries. The end of a text is a column too.
+MOST_WORK, MOST_ROWS, MOST_ENTRIES = 2 << 20, 1024, 12288
+
+# Patterns with a count: how many rows the table has for each that is counted and beside them, how many columns, and how
+# many steps the same. A row is a state of the search: what the end of the text so far may be the beginning of. At the
+# beginning of a text it is one of its own, and where nothing is read that may go on, there is one more.
+COUNTED_TABLES = {
+    "a{%d}": (1, 2, 3, 1, 1), "^a{%d}": (1, 2, 3, 1, 2), "a{%d}$": (1, 2, 3, 1, 2), "^a{%d}$": (1, 2, 3, 1, 3),
+    ".{%d}": (1, 2, 3, 1, 1), "^a{0,%d}$": (1, 2, 3, 1, 3), "^a{%d}[^a]$": (1, 3, 3, 1, 5),
+    "[^]{1000}[^]{%d}": (1, 1001, 2, 1, 1002), "\\p{L}{%d}": (1, 2, 3, 1, 2),
+    "[\\p{L}\\p{N}]{600}[\\p{L}\\p{N}]{%d}": (1, 602, 3, 1, 606),
+    "[acegikmoqsuwyACE]{600}[acegikmoqsuwyACE]{%d}": (1, 602, 3, 1, 606),
+    "[acegikmoqsuwyAC]{600}[acegikmoqsuwyAC]{%d}": (1, 602, 3, 1, 604),
+    "^^[acegikm]{%d}$": (1, 2, 3, 1, 4), "^^[acegikmo]{%d}$": (1, 2, 3, 1, 5),
+    "(?:ab){%d}": (2, 2, 4, 2, 2), "(?:a|b){%d}": (2, 2, 4, 5, 2), "^(?:a|b|c)d{%d}$": (1, 5, 6, 1, 13),
+    "^[ab]+c{%d}$": (1, 3, 4, 1, 5), "^(?:ab)*c{%d}$": (1, 4, 5, 1, 9), "^(?:ab)+c{%d}$": (1, 4, 5, 1, 9),
+    "\\ba{%d}": (1, 3, 4, 1, 2), "(?<=a)b{%d}": (1, 3, 4, 1, 5), "^a{%d}(?=b)": (1, 2, 4, 1, 6),
+    "a{%d}(?=bc)": (1, 4, 5, 1, 7), "^(?=a{%d})": (1, 2, 3, 1, 2), "^(?!a{%d})": (1, 2, 3, 1, 2),
+    "^(?=a{%d}b)^": (1, 3, 4, 1, 4), "^(?=.*\\d)a{%d}$": (1, 2, 3, 1, 3)}
+
+
+def most_counted(rows_each, rows_beside, columns, steps_each, steps_beside):
+    """The greatest count for which a table takes no more than it may."""
+    def work(count):
+        return (rows_each * count + rows_beside) * columns * (steps_each * count + steps_beside)
+    return next(count for count in itertools.count() if work(count + 1) > MOST_WORK)
+
+
+def table_limit_rows():
+    """Patterns whose tables are as large as they may be, and those a count further."""
+    yield ("the largest tables that there are, and a count more (docs/DECISIONS.md): rows times columns times the "
+           "steps of instructions and classes up to 2,097,152, 1,024 rows, 12,288 entries")
+    rows, long = [], []
+    for pattern, size in COUNTED_TABLES.items():
+        most = most_counted(*size)
+        rows += [[pattern % (most + more), more < 1] for more in (-1, 0, 1, 2)]
+    # Nine characters back, and ten: the states are which of these characters are an `a`.
+    rows += [["a[^]{8}", True], ["a[^]{9}", False], ["a[^]{9}|a{9}", True], ["a[^]{9}|a{10}", False]]
+    for more in (-1, 0, 1, 2):
+        rows.append([f"a[^]{{8}}[^a]|^b{{{MOST_ROWS - 1 - 768 + more}}}", more < 1])
+    for columns in (96, 128, 256):
+        classes = [f"[{sets}]" for sets in classes_of_bits(columns - 1) if sets]
+        # The chain of classes, the state before it, and that behind another character.
+        most = MOST_ENTRIES // columns - 2 - len(classes)
+        rows += [[f"^{''.join(classes)}{classes[0]}{{{most + more}}}$", more < 1] for more in (-1, 0, 1, 2)]
+    yield tables(rows)
+    yield "searches for these patterns"
+    for more in (0, 1):
+        for count, pattern in ((834 + more, "a{%d}"), (834 + more, "^a{%d}"), (833 + more, "^a{%d}$")):
+            is_whole = pattern.endswith("$")
+            for text, is_found in (
+                    ([["a", count]], True), ([["a", count - 1]], False), ([["a", count + 1]], not is_whole),
+                    ([["b", 1], ["a", count]], pattern[0] == "a"), ([["a", count], ["b", 1]], not is_whole),
+                    ([["a", count - 1], ["\u00e9", 1]], False),
+                    ([["a", count - 1], ["b", 1], ["a", count - 1]], False)):
+                long.append([[[pattern % count, 1]], text, is_found])
+        count = 361 + more
+        for text, is_found in (([["ab", count]], True), ([["ab", count - 1], ["a", 1]], False),
+                               ([["ab", count - 1], ["ba", count]], False), ([["ba", count], ["b", 1]], True)):
+            long.append([[[f"(?:ab){{{count}}}", 1]], text, is_found])
+        count = 22 + more
+        for letter in ("a", "\u00e9", "\u4e00", "\U0001f600"):
+            long += [[[[f"[^]{{1000}}[^]{{{count}}}", 1]], [[letter, 1000 + count]], True],
+                     [[[f"[^]{{1000}}[^]{{{count}}}", 1]], [[letter, 999 + count]], False]]
+        count = 255 + more
+        for text, is_found in (
+                ([["b", count]], True), ([["b", count - 1]], False), ([["c", 1], ["b", count]], False),
+                ([["b", count - 1], ["a", 1], ["b", 8]], False), ([["b", count - 1], ["a", 1], ["b", 9]], True),
+                ([["a", 10]], False), ([["a", 10], ["b", 1]], True), ([["ba", 8]], True), ([["a", 9], ["b", 1]], True)):
+            long.append([[[f"a[^]{{8}}[^a]|^b{{{count}}}", 1]], text, is_found])
+        count = 642 + more
+        for text, is_found in (([["a", count], ["bc", 1]], True), ([["a", count - 1], ["bc", 1]], False),
+                               ([["a", count + 9], ["bc", 1]], True), ([["a", count], ["cb", 1]], False),
+                               ([["a", count], ["b", 1]], False), ([["bca", 2], ["a", count], ["bcb", 1]], True)):
+            long.append([[[f"a{{{count}}}(?=bc)", 1]], text, is_found])
+    yield long_searches(long)
+
+
 # Properties of each kind, and of some characters those that have each (UnicodeData.txt, Scripts.txt, PropList.txt and
 # DerivedCoreProperties.txt).
 CHARACTERS_OF_KINDS = "Aa1.\u00aa\u00e9\u03a9\u2160\u4e00\uffff"
@@ -2572,6 +2744,41 @@ KINDS = {
     "Alphabetic": "Aa\u00aa\u00e9\u03a9\u2160\u4e00", "Lowercase": "a\u00aa\u00e9", "ASCII_Hex_Digit": "Aa1",
     "Lu": "A\u03a9", "Ll": "a\u00e9", "Nl": "\u2160", "L": "Aa\u00aa\u00e9\u03a9\u4e00", "N": "1\u2160",
     "sc=Latn": "Aa\u00aa\u00e9\u2160", "sc=Grek": "\u03a9", "sc=Zyyy": "1."}
+
+
+# Classes that differ in one end of a range, in a range more, in their order, in a sign or in a property.
+LIKE_CLASSES = ["[b-d]", "[a-d]", "[b-e]", "[b-c]", "[c-d]", "[b-dx]", "[xb-d]", "[b-dy]", "[bd]", "[b]", "[bb-d]",
+                "[^b-d]", "[^b-e]", "\\p{Lu}", "\\P{Lu}", "\\p{Ll}", "\\p{L}", "\\p{sc=Latn}", "\\p{sc=Grek}",
+                "\\P{sc=Grek}", "\\p{Alpha}", "\\p{Lower}", "\\p{Any}", "\\p{ASCII}", "\\p{Assigned}",
+                "[\\p{Lu}b-d]", "[\\p{Lu}b-e]"]
+# What has each property of them, of the characters below.
+OF_LIKE_CLASSES = "abcdexyA\u03a9\u03b1.\uffff"
+HAVING = {"\\p{Lu}": "A\u03a9", "\\p{Ll}": "abcdexy\u03b1", "\\p{L}": "abcdexyA\u03a9\u03b1", "\\p{sc=Latn}": "abcdexyA",
+          "\\p{sc=Grek}": "\u03a9\u03b1", "\\p{Alpha}": "abcdexyA\u03a9\u03b1", "\\p{Lower}": "abcdexy\u03b1",
+          "\\p{Any}": OF_LIKE_CLASSES, "\\p{ASCII}": "abcdexyA.", "\\p{Assigned}": OF_LIKE_CLASSES[:-1]}
+
+
+def is_in_like_class(name, character):
+    """Whether one of these classes has a character."""
+    for written, having in HAVING.items():
+        if name == written.replace("p", "P", 1):
+            return character not in having
+        name = name.replace(written, having if name[0] == "[" else f"[{having}]")
+    return re.fullmatch(name, character) is not None
+
+
+def like_class_rows():
+    """Classes that are nearly the same, one behind another."""
+    yield "classes that differ little, one behind another"
+    rows = []
+    for one, other in itertools.product(LIKE_CLASSES, repeat=2):
+        ones, others = ([character for character in OF_LIKE_CLASSES if is_in_like_class(name, character)]
+                        for name in (one, other))
+        alone = [character for character in ones if character not in others][:1]
+        alone += [character for character in others if character not in ones][:1]
+        rows += [[f"^{one}{other}$", ones[0] + character, character in others] for character in alone]
+        rows += [[f"^{one}{other}$", character + others[-1], character in ones] for character in alone]
+    yield searches(rows)
 
 
 def kind_rows():
@@ -2611,9 +2818,13 @@ def ahead_rows():
     yield from far_rows()
     yield from near_both_rows()
     yield from edge_rows()
+    yield from inner_look_rows()
     yield from repeated_look_rows()
     yield from front_limit_rows()
+    yield from look_limit_rows()
     yield from table_rows()
+    yield from table_limit_rows()
+    yield from like_class_rows()
     yield from kind_rows()
 
 
@@ -3037,6 +3248,24 @@ PAIRS_IN_CLASSES = {
     "[\\uFFFF-\\uDC00\\uDFFF]": 0, "[\\uFFFF-\\uD800\\uDBFF]": 0, "[\\uFFFF-\\uD800\\uE000]": 0}
 
 
+# Atoms of a class, each with the code point that it stands for, if it does.
+CLASS_ATOMS = {"a": 0x61, "z": 0x7A, "\\x05": 5, "-": 0x2D, "\\uD83D": 0xD83D, "\\uDE00": 0xDE00, "\\u{DE00}": 0xDE00,
+               "\\uE000": 0xE000, "\\d": None}
+
+
+def are_class_contents(atoms):
+    """Whether atoms one behind another are ClassContents (section 22.2.1), whose ranges are in order."""
+    written = "\0".join(atoms).replace("\\uD83D\0\\uDE00", "\\u{1F600}").split("\0")
+    values = [0x1F600 if atom == "\\u{1F600}" else CLASS_ATOMS[atom] for atom in written]
+    place = 0
+    while place < len(values):
+        is_range = written[place + 1:place + 2] == ["-"] and place + 2 < len(values)
+        if is_range and not (None not in values[place:place + 3] and values[place] <= values[place + 2]):
+            return False
+        place += 3 if is_range else 1
+    return True
+
+
 def is_taken_pair(one, other):
     """Whether both units are no surrogates, or are those of one character, the first the leading one."""
     is_alone = [not "D800" <= unit <= "DFFF" for unit in (one, other)]
@@ -3077,6 +3306,11 @@ def place_rows():
     yield texts(WHOLE_PATTERNS, [*pairs, *(f"[{pair}]" for pair in pairs)], lambda text: True)
     yield "the whole grammar: ranges about the ends of the surrogates"
     yield texts(WHOLE_PATTERNS, PAIRS_IN_CLASSES, PAIRS_IN_CLASSES.get)
+    yield "the whole grammar: atoms of a class one behind another, surrogates among them"
+    fronts = [(), ("a", "-", "\\uD83D"), ("\\uD83D", "-", "\\uD83D"), ("\\uE000", "-", "\\uD83D")]
+    tails = [tail for size in range(1, 4) for tail in itertools.product(CLASS_ATOMS, repeat=size)]
+    classes = {"[" + "".join(front + tail) + "]": are_class_contents(front + tail) for front in fronts for tail in tails}
+    yield texts(WHOLE_PATTERNS, classes, classes.get)
 
 
 def ecma_rows():
