@@ -2694,6 +2694,8 @@ def table_limit_rows():
     for pattern, size in COUNTED_TABLES.items():
         most = most_counted(*size)
         rows += [[pattern % (most + more), more < 1] for more in (-1, 0, 1, 2)]
+    # 512 rows, four columns and 1,024 steps.
+    rows += [["^" * (511 + more) + "ab{509}$", more < 1] for more in (-1, 0, 1)]
     # Nine characters back, and ten: the states are which of these characters are an `a`.
     rows += [["a[^]{8}", True], ["a[^]{9}", False], ["a[^]{9}|a{9}", True], ["a[^]{9}|a{10}", False]]
     for more in (-1, 0, 1, 2):
