@@ -14,8 +14,8 @@ use Rattle.strkw_keywords.specs.declared.values.Values.{Values}
 use Rattle.strkw_keywords.specs.Values.{AreValuesOf, held_value, members_of}
 use Rattle.strkw_keywords.proofs.Entries.{entries_of_exist}
 use Rattle.strkw_keywords.proofs.EntriesOf.{entries_both, shares_all, shares_at, shares_more}
-use Rattle.strkw_keywords.proofs.Held.{held_value_is_member}
-use Rattle.strkw_keywords.proofs.Without.{other_compiled}
+use Rattle.strkw_keywords.proofs.Held.{held_value_is_member, same_members}
+use Rattle.strkw_keywords.proofs.Without.{none_compiled, other_compiled, same_compiled}
 use Rattle.strkw_object.specs.declared.strings.StringKeywords.{StringKeywords}
 use Rattle.strkw_object.specs.Compiled.{IsCompiledFrom}
 use Rattle.strkw_object.specs.Values.{AreOthersOf}
@@ -159,6 +159,15 @@ module _ {E : Type 0} (outcome : E → List ℕ → Outcome) (s : Settings) (val
     done = λ ms has schema. done_still outcome s ms keywords i k vs h at (b.done ms has schema) (rw is at a.asked ms has schema);
     waits = a.waits;
   }
+
+  -- where the object has no value at another keyword, there is none either
+  pub beside_absent : (i : ℕ) (k : Keyword) (waiting : Option (Result (Validator E) CompileError)) (vs : List (Validator E)) → i < length keywords
+      → k ≡ get_or keywords i k → (k ≡ ContentSchema → ⊥) → held_value values k ≡ None → Beside i waiting vs → Beside (i + 1) waiting vs
+  beside_absent i k waiting vs h at other absent b =
+      let none = sym (held_value_is_member (held_value values) k) ∙ absent in
+      beside_still i k waiting waiting None vs h at b (asked_other i k waiting None vs other
+      (λ others are. same_compiled outcome s others (members_of values) (same_members values others are) k None
+      (none_compiled outcome s (members_of values) k none)) b) refl
 
   -- where a validator is compiled of the entry at a place, it comes behind the others
   pub beside_more : (i : ℕ) (k : Keyword) (waiting later compiled : Option (Result (Validator E) CompileError)) (vs : List (Validator E)) (v : Validator E)

@@ -104,7 +104,7 @@ pub fn compile_values<B: EngineBuilder>(
 {
     compiled_is_in_use();
     let schema = values.take_schema();
-    let others = values.borrowed();
+    let others = values.as_values();
     let schema = compile_moved_schema(alloc, ctx, others.content_media_type, schema);
     compile_beside(alloc, ctx, &others, schema)
 }
@@ -133,7 +133,13 @@ fn compile_beside<B: EngineBuilder>(
     for keyword in Keyword::VARIANTS {
         let compiled = match keyword {
             Keyword::ContentSchema => schema.take(),
-            _ => compile_among(alloc, ctx, values, *keyword),
+            _ => {
+                // Nothing is made ready for a keyword that the object has not.
+                if values.at(*keyword).is_none() {
+                    continue;
+                }
+                compile_among(alloc, ctx, values, *keyword)
+            }
         };
         let Some(compiled) = compiled else {
             continue;

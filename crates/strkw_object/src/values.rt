@@ -68,7 +68,7 @@ impl OwnedValues {
     }
 
     /// The same values, borrowed.
-    pub fn borrowed(&self) -> Values<'_>
+    pub fn as_values(&self) -> Values<'_>
         ensures { (keyword : Keyword) → held_value result keyword ≡ owned_value self.now keyword }
     {
         Values {

@@ -88,7 +88,7 @@ impl FileProgram {
         let checked = check_csv(
             rt.alloc(),
             &plan,
-            Reading::plainly(),
+            Reading::by_plan(),
             rt.reader(),
             &mut out,
             &mut progress,

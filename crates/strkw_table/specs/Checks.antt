@@ -21,8 +21,8 @@ use Rattle.strkw_table.specs.Rows.{HaveShape, OfRecords}
 
 -- how a file is read of which a caller says no more: the plan says what parts fields, the first
 -- record names the columns, and a broken field ends the check
-abbrev pub read_plainly : Reading
-read_plainly = record {
+abbrev pub plan_reading : Reading
+plan_reading = record {
   delimiter = None;
   header = header.First;
   broken = on_broken.EndsCheck;

@@ -1,7 +1,7 @@
 //! How the text of a file is read, where the caller says so.
 
 ghost use Rattle.std.specs.Prelude.{◌≡◌};
-ghost use Rattle.strkw_table.specs.Checks.{read_plainly};
+ghost use Rattle.strkw_table.specs.Checks.{plan_reading};
 
 use strkw_records::Delimiter;
 
@@ -38,8 +38,8 @@ pub struct Reading {
 impl Reading {
     /// As a file is read of which a caller says no more: the plan says what parts the fields, the first record names
     /// the columns, and a broken field ends the check.
-    pub fn plainly() -> Reading
-        ensures { result ≡ read_plainly }
+    pub fn by_plan() -> Reading
+        ensures { result ≡ plan_reading }
     {
         Reading {
             delimiter: None,

@@ -16,7 +16,7 @@ ghost use Rattle.strkw_plan.specs.Plan.{plan_of};
 ghost use Rattle.strkw_plan.specs.declared.kind.PlanKind.TheVariants.{Columns};
 ghost use Rattle.strkw_table.specs.declared.reading.Header.TheVariants.{Absent, First};
 ghost use Rattle.strkw_table.specs.Ahead.{IsLeft};
-ghost use Rattle.strkw_table.specs.Checks.{ComesTo, IsChecked, read_plainly};
+ghost use Rattle.strkw_table.specs.Checks.{ComesTo, IsChecked, plan_reading};
 ghost use Rattle.strkw_table.specs.Columns.{IsObjectFor};
 ghost use Rattle.strkw_table.specs.Faults.{IsNoPlanFault, IsWhyOfHeading, IsWhyOfNames, IsWhyOfText, delimiter_by};
 ghost use Rattle.strkw_table.specs.Fields.{AreDistinct, AreNamed, schema_named, text_form};
@@ -63,7 +63,7 @@ pub fn check_table<B: EngineBuilder, R: Read + Drop, W: Write, P: Watch>(
 ) -> Result<Checked, TableFault>
     ensures { let settings =
         rules_settings B.takes B.outcome admits accepts is_encoding decoding rules.now in
-        ComesTo read_plainly text_form settings (view plan.now) (R.remaining file)
+        ComesTo plan_reading text_form settings (view plan.now) (R.remaining file)
         (Appends (W.contents writer.old) (W.contents writer.new)) result }
 {
     check_table_as(alloc, rules, plan, file, writer, watch, &FieldLines)
@@ -83,10 +83,10 @@ pub fn check_table_as<B: EngineBuilder, R: Read + Drop, W: Write, P: Watch, F: F
 ) -> Result<Checked, TableFault>
     ensures { let settings =
         rules_settings B.takes B.outcome admits accepts is_encoding decoding rules.now in
-        ComesTo read_plainly (F.writes form.now) settings (view plan.now) (R.remaining file)
+        ComesTo plan_reading (F.writes form.now) settings (view plan.now) (R.remaining file)
         (Appends (W.contents writer.old) (W.contents writer.new)) result }
 {
-    let reading = Reading::plainly();
+    let reading = Reading::by_plan();
     check_table_with(alloc, rules, plan, reading, file, writer, watch, form)
 }
 

@@ -56,7 +56,7 @@ fn describe(
     let plan = json(alloc, plan)?;
     let reading = Reading {
         broken: BrokenField::IsError,
-        ..Reading::plainly()
+        ..Reading::by_plan()
     };
     let checked = check_table_with(
         alloc,

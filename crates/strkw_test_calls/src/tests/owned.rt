@@ -125,7 +125,7 @@ impl Asked for ByValues<'_> {
     fn is_answered(&self, alloc: Global, ctx: &Lent<'_>, _schema: &Map<String, Value>) -> Answer {
         let mut given = values(alloc, self.row.schema)?;
         let made = compile_values(alloc, ctx, &mut given);
-        let is_taken = given.borrowed().content_schema.is_none();
+        let is_taken = given.as_values().content_schema.is_none();
         only_if(is_taken, is_compiled_so(alloc, self.row, made, &ctx.checks))
     }
 }

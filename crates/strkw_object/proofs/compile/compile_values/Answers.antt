@@ -10,14 +10,14 @@ use Rattle.strkw_object.proofs.compile.compile_values.Goals as goal
 pub returns-clause-compiled : goal.returns-clause-compiled
 returns-clause-compiled g c = λ ms are.
     let taken = c.take_schema-schema.ensures in
-    let others = others_owned ms _ _ c.borrowed-others.result are taken.others c.borrowed-others.ensures in
+    let others = others_owned ms _ _ c.as_values-others.result are taken.others c.as_values-others.ensures in
     c.compile_beside.ensures.compiled ms others (c.compile_moved_schema-schema.ensures ms (others.same ContentMediaType (λ e. absurd (cc)))
     (taken.taken ∙ are.same ContentSchema))
 
 pub returns-clause-refused : goal.returns-clause-refused
 returns-clause-refused g c = λ ms are.
     let taken = c.take_schema-schema.ensures in
-    let others = others_owned ms _ _ c.borrowed-others.result are taken.others c.borrowed-others.ensures in
+    let others = others_owned ms _ _ c.as_values-others.result are taken.others c.as_values-others.ensures in
     c.compile_beside.ensures.refused ms others (c.compile_moved_schema-schema.ensures ms (others.same ContentMediaType (λ e. absurd (cc)))
     (taken.taken ∙ are.same ContentSchema))
 
