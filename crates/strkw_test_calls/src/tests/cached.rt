@@ -56,45 +56,57 @@ const ROWS: &[Row] = &[
     },
 ];
 
-// The values of a schema object, or none where a text is no object.
-fn values_of(alloc: Global, schema: &str) -> Result<OwnedValues, AllocError> {
+// Reads the values of a schema object, or none where a text is no object.
+fn read_schema(alloc: Global, schema: &str, values: &mut OwnedValues) -> Result<(), AllocError> {
     let mut scratch = Scratch::new(alloc);
-    let mut values = OwnedValues::none();
     let mut tokens = Reader::new(schema, &mut scratch)?;
-    match read_values(alloc, &mut tokens, &mut values) {
-        Ok(_) | Err(JsonError::NotJson) => Ok(values),
+    match read_values(alloc, &mut tokens, values) {
+        Ok(_) | Err(JsonError::NotJson) => Ok(()),
         Err(JsonError::Memory) => Err(AllocError),
     }
 }
 
-// The lines of the text by what a schema object is compiled to, or those of its refusal.
-fn lines_by(alloc: Global, compiled: &Compiled) -> Result<Vec<u8>, AllocError>
+// Appends the lines of the text by what a schema object is compiled to, or those of its refusal.
+fn push_lines(alloc: Global, compiled: &Compiled, lines: &mut Vec<u8>) -> Result<(), AllocError>
     requires { CanAnswer compiled.now }
 {
-    let mut lines = Vec::new(alloc);
     let Some(text) = TextNode::of(&TEXT) else {
-        return Ok(lines);
+        return Ok(());
     };
     match compiled {
         Ok(keywords) => {
-            push_errors(alloc, keywords, &text, &Checks::none(), &mut lines)?;
-            push_notes(alloc, keywords, &mut lines)?;
+            push_errors(alloc, keywords, &text, &Checks::none(), lines)?;
+            push_notes(alloc, keywords, lines)
         }
-        Err(refusal) => push_refusal(alloc, refusal, &mut lines)?,
+        Err(refusal) => push_refusal(alloc, refusal, lines),
     }
-    Ok(lines)
+}
+
+// Whether what a schema object is compiled to has the lines of its row and tells what it is to.
+fn is_told_so(alloc: Global, row: &Row, compiled: &Compiled) -> Result<bool, AllocError>
+    requires { CanAnswer compiled.now }
+{
+    let (mut lines, mut told) = (Vec::new(alloc), Vec::new(alloc));
+    push_lines(alloc, compiled, &mut lines)?;
+    push_told(alloc, compiled, None, &mut told)?;
+    Ok(lines.as_slice() == row.lines.as_bytes() && told.as_slice() == row.told.as_bytes())
+}
+
+// The same of a row, whose values are read into these.
+fn is_read_so(alloc: Global, row: &Row, values: &mut OwnedValues) -> Result<bool, AllocError> {
+    read_schema(alloc, row.schema, values)?;
+    let compiled = compile(alloc, TERMS, values);
+    let is_so = is_told_so(alloc, row, &compiled);
+    drop(compiled);
+    is_so
 }
 
 // Whether a row has the lines and tells what it is to.
 fn is_printed_so(alloc: Global, row: &Row) -> Result<bool, AllocError> {
-    let mut values = values_of(alloc, row.schema)?;
-    let compiled = compile(alloc, TERMS, &mut values);
+    let mut values = OwnedValues::none();
+    let is_so = is_read_so(alloc, row, &mut values);
     drop(values);
-    let lines = lines_by(alloc, &compiled)?;
-    let mut told = Vec::new(alloc);
-    push_told(alloc, &compiled, None, &mut told)?;
-    drop(compiled);
-    Ok(lines.as_slice() == row.lines.as_bytes() && told.as_slice() == row.told.as_bytes())
+    is_so
 }
 
 #[test]
@@ -116,8 +128,21 @@ const END: usize = 25;
 
 // As many lines as it takes until an object is cached, at most so many.
 fn lines_before(alloc: Global, cache: &mut Cache, most: usize) -> Result<usize, AllocError> {
-    let mut scratch = Scratch::new(alloc);
-    let mut values = OwnedValues::none();
+    let (mut scratch, mut values) = (Scratch::new(alloc), OwnedValues::none());
+    let lines = lines_seen(alloc, cache, &mut scratch, &mut values, most);
+    drop(values);
+    drop(scratch);
+    lines
+}
+
+// The same, with what is reused from line to line.
+fn lines_seen(
+    alloc: Global,
+    cache: &mut Cache,
+    scratch: &mut Scratch,
+    values: &mut OwnedValues,
+    most: usize,
+) -> Result<usize, AllocError> {
     let seen = Occurrence {
         terms: TERMS,
         start: START,
@@ -127,13 +152,7 @@ fn lines_before(alloc: Global, cache: &mut Cache, most: usize) -> Result<usize, 
         if cache.object.is_some() {
             return Ok(lines);
         }
-        cache.see(
-            alloc,
-            &mut scratch,
-            &mut values,
-            LINE.as_bytes(),
-            Some(seen),
-        )?;
+        cache.see(alloc, scratch, values, LINE.as_bytes(), Some(seen))?;
     }
     Ok(most)
 }
@@ -147,11 +166,9 @@ fn is_that_of_the_line(object: &CachedObject) -> bool {
         && !object.is_compiled_under(OTHER_TERMS)
 }
 
-#[test]
-fn cached_object_under_refusal(rt: HostRuntime) -> Result<(), Fail> {
-    let alloc = rt.alloc();
-    let mut cache = Cache::new(alloc, END - START);
-    if lines_before(alloc, &mut cache, 100)? != 16 {
+// A cache with no object takes that of the line behind 16 lines, and behind 32 more once it has forgotten it.
+fn caches_the_object(alloc: Global, cache: &mut Cache) -> Result<(), Fail> {
+    if lines_before(alloc, cache, 100)? != 16 {
         return Err(Fail::new("16 lines"));
     }
     match &cache.object {
@@ -159,12 +176,30 @@ fn cached_object_under_refusal(rt: HostRuntime) -> Result<(), Fail> {
         _ => return Err(Fail::new("the object")),
     }
     cache.forget();
-    if lines_before(alloc, &mut cache, 100)? != 32 {
+    if lines_before(alloc, cache, 100)? != 32 {
         return Err(Fail::new("32 lines after the first"));
     }
-    let mut short = Cache::new(alloc, END - START - 1);
-    if lines_before(alloc, &mut short, 100)? != 100 {
-        return Err(Fail::new("too long an object"));
-    }
     Ok(())
+}
+
+// A cache of shorter objects never takes it.
+fn passes_over_the_object(alloc: Global) -> Result<(), Fail> {
+    let mut short = Cache::new(alloc, END - START - 1);
+    let lines = lines_before(alloc, &mut short, 100);
+    drop(short);
+    if lines? == 100 {
+        Ok(())
+    } else {
+        Err(Fail::new("too long an object"))
+    }
+}
+
+#[test]
+fn cached_object_under_refusal(rt: HostRuntime) -> Result<(), Fail> {
+    let alloc = rt.alloc();
+    let mut cache = Cache::new(alloc, END - START);
+    let cached = caches_the_object(alloc, &mut cache);
+    drop(cache);
+    cached?;
+    passes_over_the_object(alloc)
 }

@@ -37,6 +37,14 @@ fn even_format(alloc: Global) -> Result<NamedFormat, AllocError> {
     })
 }
 
+/// The place of one segment below the root.
+pub(super) fn place_below_root(alloc: Global, segment: &str) -> Result<Location, AllocError> {
+    let root = Location::root(alloc);
+    let place = root.join(segment);
+    drop(root);
+    place
+}
+
 // A schema object under a location and a prefix that are copied. Unknown formats are refused.
 fn context<'a>(
     alloc: Global,
@@ -44,12 +52,14 @@ fn context<'a>(
     builder: &'a ScriptedBuilder<'static>,
     formats: &'a [NamedFormat],
 ) -> Result<Lent<'a>, AllocError> {
+    let absolute = String::from_str(alloc, "https://example.com")?;
+    let location = place_below_root(alloc, "a")?;
     let mut options = Options::default();
     options.ignore_unknown_formats = false;
     Ok(Context {
         draft,
-        location: Location::root(alloc).join("a")?,
-        absolute: Some(String::from_str(alloc, "https://example.com")?),
+        location,
+        absolute: Some(absolute),
         options,
         checks: Checks {
             formats,
@@ -69,15 +79,23 @@ fn are_as_set(options: &Options) -> bool {
         && options.overridden == [false; 7]
 }
 
+// Whether a format answers so of a text.
+fn tells(alloc: Global, format: &NamedFormat, text: &str, is_valid: bool) -> bool {
+    matches!(format.check.is_valid(alloc, text), Ok(told) if told == is_valid)
+}
+
+// Whether a format is that by the name `even`.
+fn is_even_format(alloc: Global, format: &NamedFormat) -> bool {
+    format.name.as_str() == "even"
+        && tells(alloc, format, "ab", true)
+        && tells(alloc, format, "abc", false)
+}
+
 // Whether the lists are those that were lent: one row, of its name and its answers.
 fn are_as_lent(alloc: Global, checks: &Checks) -> bool {
     match checks.formats {
         [row] => {
-            row.name.as_str() == "even"
-                && row.check.is_valid(alloc, "ab") == Ok(true)
-                && row.check.is_valid(alloc, "abc") == Ok(false)
-                && checks.media_types.is_empty()
-                && checks.codecs.is_empty()
+            is_even_format(alloc, row) && checks.media_types.is_empty() && checks.codecs.is_empty()
         }
         _ => false,
     }
@@ -152,14 +170,19 @@ pub(super) fn is_json(alloc: Global, value: &Value, text: &str) -> Answer {
 /// Whether this is answered as it is to be, in a context of its own. The context and the schema object are as they
 /// were, whatever was answered.
 pub(super) fn is_answered<A: Asked>(alloc: Global, asked: &A) -> Answer {
-    let draft = asked.subject().draft;
-    let builder = builder();
     let formats = [even_format(alloc)?];
-    let ctx = context(alloc, draft, &builder, &formats)?;
+    let answer = is_answered_under(alloc, asked, &formats);
+    drop(formats);
+    answer
+}
+
+// The same with these formats in the context.
+fn is_answered_under<A: Asked>(alloc: Global, asked: &A, formats: &[NamedFormat]) -> Answer {
+    let (draft, builder) = (asked.subject().draft, builder());
+    let ctx = context(alloc, draft, &builder, formats)?;
     let answer = is_answered_in(alloc, &ctx, asked);
     let is_as_lent = is_as_made(alloc, &ctx, draft);
     drop(ctx);
-    drop(formats);
     only_if(is_as_lent, answer)
 }
 
@@ -190,10 +213,22 @@ pub(super) fn are_lent(node: &Value, text: &str, site: &Site) -> bool {
         && site.instance.as_str().is_empty()
 }
 
+/// An error of a text at the root, of the keyword `k`.
+pub(super) fn error_at_root(
+    alloc: Global,
+    kind: ErrorKind,
+    text: &str,
+) -> Result<ValidationError, AllocError> {
+    let (root, site) = (Location::root(alloc), root_site(alloc));
+    let error = error_at(alloc, kind, "k", text, &root, &None, &site);
+    drop(site);
+    drop(root);
+    error
+}
+
 /// A vector that holds one error, to be lent to `collect_errors`.
 pub(super) fn lent_errors(alloc: Global) -> Result<Vec<ValidationError>, AllocError> {
-    let (root, site) = (Location::root(alloc), root_site(alloc));
-    let error = error_at(alloc, ErrorKind::FromUtf8, "k", "lent", &root, &None, &site)?;
+    let error = error_at_root(alloc, ErrorKind::FromUtf8, "lent")?;
     let mut errors = Vec::new(alloc);
     errors.push(error)?;
     Ok(errors)

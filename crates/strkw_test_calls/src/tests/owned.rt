@@ -10,7 +10,7 @@ use serde_json::{Map, Value};
 use std::alloc::{AllocError, Global};
 use std::test::Fail;
 use strkw_keywords::{Checks, Keyword, Uses, take_content_schema};
-use strkw_object::{OwnedValues, StringKeywords, compile_owned, compile_values};
+use strkw_object::{Note, OwnedValues, StringKeywords, compile_owned, compile_values};
 use strkw_report::{CompileError, Draft};
 use strkw_test_doubles::ScriptedEngine;
 
@@ -94,11 +94,23 @@ fn notes(
     if !keywords.uses(checks) {
         return Ok(false);
     }
-    let found = keywords.evaluate(alloc, &"x", &root_site(alloc), checks)?;
-    let is_one_each = keywords.validators().len() == found.notes.len();
-    let are_noted = are_notes(alloc, &found.notes, lines);
+    let site = root_site(alloc);
+    let found = keywords.evaluate(alloc, &"x", &site, checks);
+    drop(site);
+    let are_noted = match &found {
+        Ok(found) => are_one_each(alloc, keywords, &found.notes, lines),
+        Err(AllocError) => Err(AllocError),
+    };
     drop(found);
-    only_if(is_one_each, are_noted)
+    are_noted
+}
+
+// Whether the lines of the notes are these, and there is a note for each validator.
+fn are_one_each(alloc: Global, keywords: &Keywords, notes: &[Note], lines: &str) -> Answer {
+    only_if(
+        keywords.validators().len() == notes.len(),
+        are_notes(alloc, notes, lines),
+    )
 }
 
 #[test]
@@ -235,10 +247,19 @@ fn is_noted_by<V: Uses>(
     validator: &V,
     value: Option<&str>,
 ) -> Result<bool, AllocError> {
-    match validator.note(alloc)? {
-        Some(note) => Ok(value == Some(note.value.to_string(alloc)?.as_str())),
-        None => Ok(value.is_none()),
-    }
+    let noted = validator.note(alloc);
+    let is_so = match &noted {
+        Ok(Some(note)) => is_written_so(alloc, &note.value, value),
+        Ok(None) => Ok(value.is_none()),
+        Err(AllocError) => Err(AllocError),
+    };
+    drop(noted);
+    is_so
+}
+
+// Whether the JSON text of a value is this one.
+fn is_written_so(alloc: Global, value: &Value, text: Option<&str>) -> Answer {
+    Ok(text == Some(value.to_string(alloc)?.as_str()))
 }
 
 #[test]

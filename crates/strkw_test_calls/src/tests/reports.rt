@@ -1,7 +1,7 @@
 //! Errors, refusals and places: their texts, with each growth refused too. A refused call is asked again, once it has
 //! shown that what it was lent is as it was.
 
-use super::context::{json, root_site};
+use super::context::{error_at_root, json, place_below_root};
 use serde_json::Value;
 use std::alloc::{AllocError, Global};
 use std::test::Fail;
@@ -96,9 +96,12 @@ const ERRORS: &[Said] = &[
 
 // An error at the root.
 fn error_of(alloc: Global, failure: Failure, text: &str) -> Result<ValidationError, AllocError> {
-    let kind = failure.kind(alloc)?;
-    let location = Location::root(alloc);
-    error_at(alloc, kind, "k", text, &location, &None, &root_site(alloc))
+    error_at_root(alloc, failure.kind(alloc)?, text)
+}
+
+// Whether an error says so.
+fn says(alloc: Global, error: &ValidationError, want: &str) -> Result<bool, AllocError> {
+    Ok(error.text(alloc)?.as_str() == want)
 }
 
 // Whether an error of a text says so. Where it was out of memory to say it, it is as it was, and out of memory is an
@@ -109,10 +112,11 @@ fn is_said(
     text: &str,
     want: &str,
 ) -> Result<bool, AllocError> {
-    if let Ok(said) = error.text(alloc) {
-        return Ok(said.as_str() == want);
+    let said = says(alloc, error, want);
+    if said.is_ok() {
+        return said;
     }
-    let is_as_it_was = error.text(alloc)?.as_str() == want
+    let is_as_it_was = says(alloc, error, want)?
         && error.instance.as_str() == Some(text)
         && error.schema_path.as_str() == "/k";
     if is_as_it_was {
@@ -348,31 +352,50 @@ const PLACES: &[Joined] = &[
 fn place_of(alloc: Global, segments: &[&str]) -> Result<Option<Location>, AllocError> {
     let mut place = Location::root(alloc);
     for segment in segments {
-        let before: Location = place.clone()?;
-        let joined = place.join(segment);
-        if joined.is_err() && place.as_str() != before.as_str() {
-            return Ok(None);
+        match joined_to(&place, segment)? {
+            Some(joined) => place = joined,
+            None => return Ok(None),
         }
-        place = joined?;
     }
     Ok(Some(place))
 }
 
+// The place of a segment below a place. `None` where that one was changed by a join that was out of memory.
+fn joined_to(place: &Location, segment: &str) -> Result<Option<Location>, AllocError> {
+    let before: Location = place.clone()?;
+    let joined = place.join(segment);
+    let is_changed = joined.is_err() && place.as_str() != before.as_str();
+    drop(before);
+    if is_changed {
+        Ok(None)
+    } else {
+        Ok(Some(joined?))
+    }
+}
+
+// Whether a copy of a place is this pointer.
+fn is_copied(place: &Location, want: &str) -> Result<bool, AllocError> {
+    Ok(place.clone()?.as_str() == want)
+}
+
 // Whether a place, its copy and its text are this pointer; the place is, whether or not there was memory for a copy.
 fn is_pointer(alloc: Global, place: &Location, want: &str) -> Result<bool, AllocError> {
-    let copy: Result<Location, AllocError> = place.clone();
+    let is_copied = is_copied(place, want);
     if place.as_str() != want {
         return Ok(false);
     }
-    Ok(place.to_string(alloc)?.as_str() == want && copy?.as_str() == want)
+    Ok(place.to_string(alloc)?.as_str() == want && is_copied?)
 }
 
 // Whether the place of these segments is this pointer.
 fn are_joined_to(alloc: Global, segments: &[&str], want: &str) -> Result<bool, AllocError> {
-    match place_of(alloc, segments)? {
-        Some(place) => is_pointer(alloc, &place, want),
+    let place = place_of(alloc, segments)?;
+    let is_so = match &place {
+        Some(place) => is_pointer(alloc, place, want),
         None => Ok(false),
-    }
+    };
+    drop(place);
+    is_so
 }
 
 #[test]
@@ -385,23 +408,34 @@ fn pointers_of_places_under_refusal(rt: HostRuntime) -> Result<(), Fail> {
     Ok(())
 }
 
+// The first item of an array, on a way of evaluation through a name with a slash.
+fn site_of_an_item(alloc: Global) -> Result<Site, AllocError> {
+    let evaluation = place_below_root(alloc, "a/b")?;
+    let instance = place_below_root(alloc, "0")?;
+    Ok(Site {
+        evaluation,
+        instance,
+    })
+}
+
 // An error of an item of an array, with an absolute prefix.
 fn error_of_an_item(alloc: Global) -> Result<ValidationError, AllocError> {
-    let evaluation = Location::root(alloc).join("a/b")?;
-    let instance = Location::root(alloc).join("0")?;
     let prefix = Some(to_owned(alloc, "https://example.com/s.json")?);
-    error_at(
+    let site = site_of_an_item(alloc)?;
+    let (kind, root) = (ErrorKind::MinLength { limit: 20 }, Location::root(alloc));
+    let error = error_at(
         alloc,
-        ErrorKind::MinLength { limit: 20 },
+        kind,
         "minLength",
         "secretvalue",
-        &Location::root(alloc),
+        &root,
         &prefix,
-        &Site {
-            evaluation,
-            instance,
-        },
-    )
+        &site,
+    );
+    drop(root);
+    drop(site);
+    drop(prefix);
+    error
 }
 
 // Whether each field of that error is as it is to be.
@@ -428,7 +462,10 @@ fn is_noted_alone(found: &EvaluationResult) -> bool {
 
 #[test]
 fn fields_of_an_error_under_refusal(rt: HostRuntime) -> Result<(), Fail> {
-    if is_error_of_the_item(&error_of_an_item(rt.alloc())?) {
+    let error = error_of_an_item(rt.alloc())?;
+    let is_so = is_error_of_the_item(&error);
+    drop(error);
+    if is_so {
         Ok(())
     } else {
         Err(Fail::new("another error"))
@@ -437,7 +474,10 @@ fn fields_of_an_error_under_refusal(rt: HostRuntime) -> Result<(), Fail> {
 
 #[test]
 fn fields_of_a_result_under_refusal(rt: HostRuntime) -> Result<(), Fail> {
-    if is_noted_alone(&noted_result(rt.alloc())?) {
+    let found = noted_result(rt.alloc())?;
+    let is_so = is_noted_alone(&found);
+    drop(found);
+    if is_so {
         Ok(())
     } else {
         Err(Fail::new("another result"))
