@@ -6,7 +6,8 @@
 It asks of each document whether the files, functions and tests exist that it names, whether its links lead anywhere and
 its lines are at most 120 characters long; of each crate, whether it stands where every crate has to, with what it
 stands on, its files and its public functions; and of each number in `COUNTED` whether that is the count. It also asks
-whether bench/README.md and its pictures have the figures of bench/taken. The last line is `N passed, M failed`; a line
+whether each wrong definition can be put into the files, and bench/README.md and its pictures have the figures of
+bench/taken. The last line is `N passed, M failed`; a line
 before it tells each claim that does not hold.
 """
 import re
@@ -19,6 +20,7 @@ sys.path.insert(0, str(TOP / "bench"))
 from figures import is_of_readme, tables_of
 from named import LABELS
 from pictures import PICTURES
+from wrong_definitions import Broken, changed
 
 LONGEST_LINE = 120
 LONGEST_README = 60
@@ -259,6 +261,17 @@ def wrong_definitions_told(tree):
         yield from zip(re.findall(r"\w+", crates), map(int, re.findall(r"\d+", numbers)))
 
 
+def of_wrong_definitions(tree):
+    """Whether each wrong definition can be put into the files as they are."""
+    for name in tree.under(r"tools/wrong_definitions/\w+/.*"):
+        try:
+            changed(TOP / name, TOP / "crates" / name.split("/")[2])
+            why = None
+        except (Broken, OSError) as broken:
+            why = broken
+        yield f"{name}: {why}", why is None
+
+
 def of_versions(tree):
     """Each place that has the version or the logic, and whether it is the same."""
     version = tree.text["VERSION"].strip()
@@ -309,7 +322,7 @@ def main():
     """Tells each claim that does not hold, and counts the claims."""
     tree = Tree()
     counts = {True: 0, False: 0}
-    for ask in [of_documents, of_crates, of_functions, of_counts, of_versions, of_the_gate, of_measurements]:
+    for ask in [of_documents, of_crates, of_functions, of_counts, of_wrong_definitions, of_versions, of_the_gate, of_measurements]:
         for what, holds in ask(tree):
             counts[bool(holds)] += 1
             if not holds:

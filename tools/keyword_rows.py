@@ -10,7 +10,7 @@ has the texts; neither reads what a program answers. The last line is `N passed,
 """
 import sys
 from dataclasses import dataclass
-from itertools import combinations, product
+from itertools import combinations, product, zip_longest
 from pathlib import Path
 
 from keyword_meaning import (CHECKS, KEYWORDS, MEMBERS, Number, answer, answer_to_line, compact, named_lines, parsed,
@@ -1208,13 +1208,18 @@ def answer_to_text(text):
     return answer_to_line(value)
 
 
-def written(first, *lines):
-    """The row of an input to `run`: so many lines alike that they share an object, and then lines as they stand."""
-    told = [it for it in answer_to_line(numbered(first)) * 17]
+def behind_alike(first, *lines):
+    """The row of an input to `run`: so many lines alike that they share an object, and then others, all as they stand."""
+    told = [it for it in answer_to_text(first) * 17]
     told += [it for line in lines for it in answer_to_text(line)]
     assert len("\n".join(told)) < LONGEST_SHOWN
-    return made(compact({"input": [[compact(first) + "\n", Number("17")], *(line + "\n" for line in lines)]}),
+    return made(compact({"input": [[first + "\n", Number("17")], *(line + "\n" for line in lines)]}),
                 ["\n".join(told)])
+
+
+def written(first, *lines):
+    """The same, where the lines alike have nothing between their tokens."""
+    return behind_alike(compact(numbered(first)), *lines)
 
 
 def texts_of_a_shared_schema():
@@ -1250,6 +1255,54 @@ def texts_of_a_shared_schema():
         yield written(kept, f'{compact(first)[:-2]}"x"}}', f'{compact(kept)[:-1]},"instance":"x"}}')
 
 
+# The tokens of a line that asks an object O of a text T.
+ASKING = ("{", '"draft"', ":", "7", ",", '"schema"', ":", "O", ",", '"instance"', ":", '"T"', "}")
+
+# Objects as they stand, one with gaps, and one with escapes.
+OBJECTS = ('{"maxLength":1}', '{ "maxLength" : 1 }', '{"pattern":"\\u005ea\\/","x":"\\\\\\""}')
+
+
+def texts_behind_each_front():
+    """Lines that share an object and have a gap at one place or at all of them, and lines that have it elsewhere."""
+    def line(schema, text, gaps):
+        return "".join(gap + token for gap, token in zip_longest(gaps, ASKING, fillvalue="")).replace(
+            "O", schema).replace("T", text)
+
+    count = len(ASKING) + 1
+    alike = [[""] * count, [" "] * count, [" " if at and ASKING[at - 1] in ":," else "" for at in range(count)]]
+    alike += [["\t\r"[at % 2] if at == place else "" for at in range(count)] for place in range(count)]
+    for schema in OBJECTS:
+        for gaps in alike:
+            others = [line(schema, text, gaps) for text in ("", "xx", r"x\"", "x\u00e9", r"\u0078")]
+            others += [line(schema, "xx", it) for it in (alike[0], alike[1])]
+            others += [line(schema, "xx", gaps).replace("7", draft, 1) for draft in ("6", "77", "7.0")]
+            others += [line(it, "xx", gaps) for it in ('{"maxLength":2}', "5")]
+            yield behind_alike(line(schema, "x", gaps), *others)
+
+
+def lines_told_by_their_ends():
+    """Lines that share no object: what stands where the draft is, the object and the text, each as it stands."""
+    def line(draft, schema, text):
+        return f'{{"draft":{draft},"schema":{schema},"instance":"{text}"}}'
+
+    drafts = ("4", "6", "7", "201909", "202012", "2019", "20201", "2020120", "70", "07", "-7", "7.0", "7e0", "7E0", '"7"', "[7]",
+              "null", "", " 7", "7 ", "4,6", '7,"draft":4', '7,"fold":true', '"\\u0037"')
+    schemas = ("{}", " {}", "{} ", "{}{}", "{},{}", "{},", ",{}", "[]", "5", '""', "true", "null", "", "{", "}", '{"a"', '{"a":}',
+               '{"maxLength":01}', '{"maxLength":1}', '{"maxLength":1,"maxLength":3}', '{"max\\u004cength":1}', '{"a":"}"}',
+               '{"a":"\\""}', '{"a":"\\\\"}', '{"a":{"maxLength":1}}', '{"instance":"z","maxLength":1}', '[{"maxLength":1}]',
+               '{"maxLength":1},"draft":4', '{"maxLength":1},"instance":"y"', '{"maxLength":1},"instance":5',
+               '{"maxLength":1},"fold":true', '{"maxLength":1},"other":1', '{"maxLength":1},"schema":{}',
+               '{"maxLength":1},"schema":5', '{"maxLength":1.5}', '{"minLength":-1,"maxLength":1}', '{"maxLength":1}]')
+    texts = ("", "x", "xx", "\u00e9", r"\"", r"x\\", r"\u0041", '"', 'x","fold":true,"instance":"xx', "x\t", "}", '"}')
+    for lines in ([line(draft, '{"maxLength":1}', "xx") for draft in drafts],
+                  [line("7", schema, text) for schema in schemas for text in ("x", "xx", r"\u0041")],
+                  [line(draft, schema, text) for draft in ("4", "202012") for schema in ("{}", '{"maxLength":1}')
+                   for text in texts]):
+        for at in range(0, len(lines), 6):
+            told = [it for line in lines[at:at + 6] for it in answer_to_text(line)]
+            yield made(compact({"input": [line + "\n" for line in lines[at:at + 6]]}), ["\n".join(told)])
+
+
 SECTIONS = (
     ("values of each shape", values_of_each_shape), ("values beside a media type", values_beside_a_media_type),
     ("values that nest", deep_values),
@@ -1281,6 +1334,7 @@ SECTIONS = (
     ("each character of ASCII", controls), ("folds told", folds_told),
     ("lines that share a schema", lines_that_share_a_schema),
     ("texts of a shared schema", texts_of_a_shared_schema),
+    ("texts behind each front", texts_behind_each_front), ("lines told by their ends", lines_told_by_their_ends),
 )
 
 

@@ -109,23 +109,29 @@ def texts_of_rows(stored):
     return [line.removeprefix("row: ") for line in stored.read_text().splitlines() if line.startswith("row: ")]
 
 
+def changed(stored, crate):
+    """The texts of files before and after a stored edit, by the files. Nothing is written."""
+    before, after = {}, {}
+    for path, old, new in replacements(stored):
+        file = crate / path
+        text = after.get(file) or before.setdefault(file, file.read_text())
+        places = [*re.finditer(r"\s+".join(map(re.escape, old.split())), text)]
+        if len(places) != 1:
+            raise Broken(f"{path} has {len(places)} times {old!r}")
+        after[file] = text[:places[0].start()] + new.strip() + text[places[0].end():]
+    if not before:
+        raise Broken("replaces nothing")
+    return before, after
+
+
 def apply(stored, crate):
     """Applies a stored edit. Answers the texts that it replaced, by their files."""
-    before = {}
     try:
-        for path, old, new in replacements(stored):
-            file = crate / path
-            text = file.read_text()
-            before.setdefault(file, text)
-            places = [*re.finditer(r"\s+".join(map(re.escape, old.split())), text)]
-            if len(places) != 1:
-                raise Broken(f"{path} has {len(places)} times {old!r}")
-            file.write_text(text[:places[0].start()] + new.strip() + text[places[0].end():])
-        if not before:
-            raise Broken("replaces nothing")
-    except (Broken, OSError) as why:
-        undo(before)
+        before, after = changed(stored, crate)
+    except OSError as why:
         raise Broken(why) from why
+    for file, text in after.items():
+        file.write_text(text)
     return before
 
 

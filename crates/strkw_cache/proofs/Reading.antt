@@ -155,11 +155,16 @@ converted_before more None s d same e = no_value d e
 converted_before more (Some a) s d same e =
     ap (converted of_json) (same a refl) ∙ left_beside a.1 more (of_json a.0) ∙ ap (option_map (left_more more)) e
 
+-- A value is read of tokens whatever comes behind them, and this is left too.
+pub read_with_more : (depth : ℕ) (ts left more : List Token) (d : Data) → value_read depth ts ≡ Some (d, left)
+    → value_read depth (ts ++ more) ≡ Some (d, left ++ more)
+read_with_more depth ts left more d e = converted_before more (value depth ts) (value depth (ts ++ more)) (d, left) (value_before depth ts more) e
+
 -- A value that all of these tokens are is read of them wherever they come first, and the others are left.
 pub read_before : (depth : ℕ) (ts more all : List Token) (d : Data) → value_read depth ts ≡ Some (d, []) → all ≡ ts ++ more
     → value_read depth all ≡ Some (d, more)
 read_before depth ts more all d e is =
-    ap (value_read depth) is ∙ converted_before more (value depth ts) (value depth (ts ++ more)) (d, []) (value_before depth ts more) e
+    ap (value_read depth) is ∙ read_with_more depth ts [] more d e
 
 -- a value has a token
 pub some_tokens : (depth : ℕ) (ts : List Token) (d : Data × List Token) → value_read depth ts ≡ Some d → 0 < length ts

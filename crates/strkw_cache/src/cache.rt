@@ -9,9 +9,8 @@ ghost use Rattle.strkw_object.specs.Values.{AreOwnedOf};
 ghost use Rattle.strkw_cache.specs.Cached.{IsCached, Keeps};
 ghost use Rattle.strkw_cache.specs.Depths.{member_depth};
 ghost use Rattle.strkw_cache.specs.Fronts.{Asks};
-ghost use Rattle.strkw_cache.specs.Tokens.{tokens_owned};
 
-use super::fronts::{are_plain, front_of};
+use super::fronts::{are_plain, front_in};
 use super::terms::{Compiled, Terms, compile};
 use super::tokens::{OwnedToken, take_same, tokens_in};
 use super::told::push_told;
@@ -42,16 +41,17 @@ pub struct CachedObject {
     pub compiled: Compiled,
     /// What each answer by it tells behind the errors of a text. Of a refusal it is the whole answer.
     pub told: Vec<u8>,
-    /// The front of the shortest line that asks it of a text, up to the text, where there is one.
+    /// What the lines begin with that ask it of a text as one of them did, up to the text, where that has no option.
     pub front: Option<String>,
 }
 
 impl CachedObject {
-    // The object that a text is, if it is one, compiled under these terms.
+    // The object that a text is, if it is one, compiled under these terms. The text stands in a line.
     fn of(
         alloc: Global,
         scratch: &mut Scratch,
         values: &mut OwnedValues,
+        line: &[u8],
         bytes: &[u8],
         terms: Terms,
     ) -> Result<Option<CachedObject>, AllocError>
@@ -67,7 +67,7 @@ impl CachedObject {
         let compiled = compile(alloc, terms, values);
         let mut told = Vec::new(alloc);
         push_told(alloc, &compiled, None, &mut told)?;
-        let front = front_of(alloc, terms, &tokens)?;
+        let front = front_in(alloc, scratch, line, terms, &tokens)?;
         Ok(Some(CachedObject {
             text: Vec::from_slice(alloc, bytes)?,
             tokens,
@@ -109,8 +109,8 @@ impl CachedObject {
     /// The text that a line asks the object of, where the line is the front, a text with no escape, and what ends it.
     pub fn text_asked<'a>(&self, line: &'a str) -> Option<&'a str>
         requires { IsCached self.now }
-        ensures { IfSome result (λ text. Asks self.now.terms
-            (tokens_owned self.now.tokens.items) text.now line.now) }
+        ensures { IfSome result (λ text. (ms : Members) → Keeps self.now ms
+            → Asks self.now.terms ms text.now line.now) }
     {
         let rest = line.strip_prefix(self.front.as_ref()?.as_str())?;
         let text = rest.strip_suffix("\"}")?;
@@ -202,7 +202,8 @@ impl Cache {
     }
 
     /// Sees the object of a line, or `None` where the cached one answered it. The object is cached where enough lines in
-    /// turn have one of its length and the same terms, and some of them its text.
+    /// turn have one of its length and the same terms, and some of them its text. The first lines that it answers are
+    /// looked at for what they begin with, until that is known.
     ///
     /// The only error is out of memory. Then the object is the one that was cached before.
     pub fn see(
@@ -218,8 +219,11 @@ impl Cache {
         ensures err { OnErr result (self.new.object ≡ self.old.object) }
     {
         let Some(seen) = seen else {
-            self.wanted = LINES_BEFORE.max(self.wanted.saturating_sub(1));
-            return Ok(());
+            if self.wanted <= LINES_BEFORE {
+                return Ok(());
+            }
+            self.wanted = self.wanted.saturating_sub(1);
+            return self.find_front(alloc, scratch, line);
         };
         let len = seen.end.saturating_sub(seen.start);
         if self.len != len || self.terms != Some(seen.terms) {
@@ -240,7 +244,26 @@ impl Cache {
         self.lines = 0;
         if self.text.as_slice() == text {
             self.wanted = self.wanted.saturating_add(LINES_BEFORE);
-            self.object = CachedObject::of(alloc, scratch, values, text, seen.terms)?;
+            self.object = CachedObject::of(alloc, scratch, values, line, text, seen.terms)?;
+        }
+        Ok(())
+    }
+
+    // Finds what the lines begin with that ask the cached object of a text, in one that it has answered, unless it is known.
+    fn find_front(
+        &mut self,
+        alloc: Global,
+        scratch: &mut Scratch,
+        line: &[u8],
+    ) -> Result<(), AllocError>
+        requires { IfSome self.old.object IsCached }
+        ensures sound { IfSome self.new.object IsCached }
+        ensures err { OnErr result (self.new.object ≡ self.old.object) }
+    {
+        if let Some(object) = &mut self.object {
+            if object.front.is_none() {
+                object.front = front_in(alloc, scratch, line, object.terms, &object.tokens)?;
+            }
         }
         Ok(())
     }

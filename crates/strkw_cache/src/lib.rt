@@ -2,6 +2,7 @@
 //! lines share it.
 #![tactic(auto)]
 
+mod asked;
 mod cache;
 mod fronts;
 mod terms;
@@ -9,6 +10,7 @@ mod tokens;
 mod told;
 mod values;
 
+pub use asked::{Asked, read_asked};
 pub use cache::{Cache, CachedObject, Occurrence};
 pub use terms::{Compiled, Terms, compile};
 pub use tokens::OwnedToken;

@@ -1,8 +1,10 @@
 //! The tokens of a text with texts of their own, and whether a reader comes to the same ones.
 
-ghost use Rattle.std.specs.Prelude.{◌++◌, ◌≡◌, IfOk, IsTrue};
+ghost use Rattle.std.specs.Prelude.{◌++◌, ◌≡◌, IfOk, IsTrue, true};
+ghost use Rattle.json.specs.Align.{is_good};
 ghost use Rattle.json.specs.Lex.{tokens as tokens_of_text};
 ghost use Rattle.json.specs.Reads.{token_of};
+ghost use Rattle.strkw_cache.specs.Fronts.{AreGood};
 ghost use Rattle.strkw_cache.specs.Tokens.{token_owned, tokens_owned};
 
 use json::{Reader, Scratch, Token};
@@ -54,7 +56,8 @@ impl OwnedToken {
 
     // Whether this is the token.
     fn is(&self, token: &Token<'_>) -> bool
-        ensures { IsTrue result → token_of token.now ≡ token_owned self.now }
+        ensures same { IsTrue result → token_of token.now ≡ token_owned self.now }
+        ensures good { IsTrue result → is_good (token_owned self.now) ≡ true }
     {
         match (self, token) {
             (OwnedToken::BeginObject, Token::BeginObject)
@@ -89,7 +92,8 @@ pub(super) fn tokens_in(
 
 /// Takes as many tokens as there are here, up to the first that is another one: whether there is none.
 pub(super) fn take_same(kept: &[OwnedToken], tokens: &mut Reader<'_>) -> bool
-    ensures { IsTrue result → tokens.old ≡ tokens_owned kept.now ++ tokens.new }
+    ensures same { IsTrue result → tokens.old ≡ tokens_owned kept.now ++ tokens.new }
+    ensures good { IsTrue result → AreGood (tokens_owned kept.now) }
 {
     for token in kept {
         match tokens.next() {

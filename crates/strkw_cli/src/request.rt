@@ -22,7 +22,7 @@ use super::unread::{Unanswered, Unread};
 use json::{Reader, Scratch, Token};
 use serde_json::Value;
 use std::alloc::Global;
-use strkw_cache::{CachedObject, MEMBER_DEPTH, Terms, read_values};
+use strkw_cache::{CachedObject, MEMBER_DEPTH, Occurrence, Terms, read_asked, read_values};
 use strkw_json::{json_scalar, json_text};
 use strkw_object::OwnedValues;
 use strkw_report::{Draft, draft_in};
@@ -230,10 +230,40 @@ fn parts_in<'a>(
     Ok(parts)
 }
 
+// The request that a text is by its members, in whatever order they come.
+fn read_members<'a>(
+    alloc: Global,
+    text: &'a str,
+    scratch: &'a mut Scratch,
+    cached: Option<&'a CachedObject>,
+    values: &mut OwnedValues,
+) -> Result<Option<Request<'a>>, Unanswered>
+    requires { IfSome cached (λ object. IsCached object.now) }
+    ensures ok { IfOk result (λ request. AreBoth (IsRequest values.new) request
+        (option_and_then request_in (read_text text.now))) }
+    ensures right { IfOk result (λ request. IfSome request
+        (λ r. IsRight (is_some cached.entry) r.schema)) }
+    ensures same { cached.entry ≡ None → IsErrOf result Unanswered.Differs → ⊥ }
+{
+    let mut tokens = Reader::new(text, scratch)?;
+    let Some(Token::BeginObject) = tokens.next() else {
+        return Ok(None);
+    };
+    match parts_in(alloc, Line { text, cached }, &mut tokens, values) {
+        Ok(parts) => match tokens.next() {
+            None => Ok(parts.into_request()),
+            Some(_) => Ok(None),
+        },
+        Err(Unread::NotJson) => Ok(None),
+        Err(Unread::Memory) => Err(Unanswered::Memory),
+        Err(Unread::Differs) => Err(Unanswered::Differs),
+    }
+}
+
 /// The request that a line is, or `None` where it is none. The scratch is held from line to line, and a schema object
 /// may be cached, which is then not read anew; of another one the values are read. A line that asks the cached object of
-/// a text, and has no option, is told by its bytes. It differs where the line has the text of the object that is cached,
-/// and other tokens.
+/// a text, and has no option, is told by its bytes, and one that asks another object so by the bytes around that. It
+/// differs where the line has the text of the object that is cached, and other tokens.
 pub(super) fn read_request<'a>(
     alloc: Global,
     line: &'a [u8],
@@ -264,17 +294,14 @@ pub(super) fn read_request<'a>(
     if text.len() < SHORTEST_OBJECT {
         return Ok(None);
     }
-    let mut tokens = Reader::new(text, scratch)?;
-    let Some(Token::BeginObject) = tokens.next() else {
-        return Ok(None);
-    };
-    match parts_in(alloc, Line { text, cached }, &mut tokens, values) {
-        Ok(parts) => match tokens.next() {
-            None => Ok(parts.into_request()),
-            Some(_) => Ok(None),
-        },
-        Err(Unread::NotJson) => Ok(None),
-        Err(Unread::Memory) => Err(Unanswered::Memory),
-        Err(Unread::Differs) => Err(Unanswered::Differs),
+    if let Some(asked) = read_asked(alloc, scratch, cached, values, text)? {
+        let Occurrence { terms, start, end } = asked.occurrence;
+        return Ok(Some(Request {
+            terms,
+            schema: Schema::Read(start, end),
+            instance: Some(asked.text),
+            fold: false,
+        }));
     }
+    read_members(alloc, text, scratch, cached, values)
 }

@@ -7,7 +7,8 @@ use json::{Reader, Scratch};
 use std::alloc::{AllocError, Global};
 use std::test::Fail;
 use strkw_cache::{
-    Cache, CachedObject, Compiled, Occurrence, Terms, compile, push_told, read_values,
+    Asked, Cache, CachedObject, Compiled, Occurrence, Terms, compile, push_told, read_asked,
+    read_values,
 };
 use strkw_json::JsonError;
 use strkw_keywords::Checks;
@@ -202,4 +203,49 @@ fn cached_object_under_refusal(rt: HostRuntime) -> Result<(), Fail> {
     drop(cache);
     cached?;
     passes_over_the_object(alloc)
+}
+
+// A line, and what it asks where its ends tell it: the text, and the place of the object and the one behind it.
+struct AskingRow {
+    line: &'static str,
+    asked: Option<(&'static str, usize, usize)>,
+}
+
+const ASKING: &[AskingRow] = &[
+    AskingRow {
+        line: r#"{"draft":7,"schema":{"maxLength":1},"instance":"xy"}"#,
+        asked: Some(("xy", 20, 35)),
+    },
+    AskingRow {
+        line: r#"{"draft":7,"schema":{"maxLength":1},"instance":"xy","fold":true}"#,
+        asked: None,
+    },
+    AskingRow {
+        line: r#"{"draft":7,"schema":["maxLength"],"instance":"xy"}"#,
+        asked: None,
+    },
+];
+
+// Whether this was found that a row tells, under its terms.
+fn is_found(row: &AskingRow, found: Option<Asked<'_>>) -> bool {
+    let Some(asked) = found else {
+        return row.asked.is_none();
+    };
+    let Occurrence { terms, start, end } = asked.occurrence;
+    terms == TERMS && row.asked == Some((asked.text, start, end))
+}
+
+#[test]
+fn asked_under_refusal(rt: HostRuntime) -> Result<(), Fail> {
+    let alloc = rt.alloc();
+    let mut scratch = Scratch::new(alloc);
+    let mut values = OwnedValues::none();
+    for row in ASKING {
+        let found = read_asked(alloc, &mut scratch, None, &mut values, row.line)?;
+        if !is_found(row, found) {
+            return Err(Fail::new(row.line));
+        }
+    }
+    drop(values);
+    Ok(())
 }
