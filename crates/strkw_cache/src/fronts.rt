@@ -90,6 +90,21 @@ fn behind_draft(front: &str, draft: Draft) -> Option<&str>
     Some(behind.strip_prefix(",\"schema\":")?)
 }
 
+/// The draft of a line that begins with it, with nothing between the tokens before its schema object, and what stands from
+/// that object on.
+pub fn split_draft(line: &str) -> Option<(Draft, &str)>
+    ensures { IfSome result (λ found. (named : Numbered found.0) × ((rest : List ℕ)
+        → tokens_of_text (line.now ++ rest)
+        ≡ line_tokens named.number (tokens_of_text (found.1.now ++ rest)))) }
+{
+    for draft in DRAFTS {
+        if let Some(behind) = behind_draft(line, draft) {
+            return Some((draft, behind));
+        }
+    }
+    None
+}
+
 /// The draft and the text of the object in what stands in a line before the text that it asks the object of, where these
 /// come in this order, no option stands beside them, and nothing between the tokens.
 pub(super) fn split_front(before: &str) -> Option<(Draft, &str)>
@@ -98,12 +113,8 @@ pub(super) fn split_front(before: &str) -> Option<(Draft, &str)>
         (tokens_of_text (found.1.now ++ (codes ",\"instance\":" ++ rest))))) }
 {
     let front = before.strip_suffix(",\"instance\":")?;
-    for draft in DRAFTS {
-        if let Some(object) = behind_draft(front, draft) {
-            return Some((draft, object));
-        }
-    }
-    None
+    let (draft, object) = split_draft(front)?;
+    Some((draft, object))
 }
 
 /// What stands in a line before the string that ends it but for a brace, and that string, where it has no escape.

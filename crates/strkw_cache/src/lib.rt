@@ -12,6 +12,7 @@ mod values;
 
 pub use asked::{Asked, read_asked};
 pub use cache::{Cache, CachedObject, Occurrence};
+pub use fronts::split_draft;
 pub use terms::{Compiled, Terms, compile};
 pub use tokens::OwnedToken;
 pub use told::push_told;

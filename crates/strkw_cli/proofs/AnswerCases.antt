@@ -2,9 +2,9 @@
 use Rattle.std.proofs.Common.{◌≡◌, ◌≢◌, ◌↔◌, ◌⊎◌, inl, inr, ℕ, List, [], Bool, true, false, ◌++◌, Option}
 use Rattle.std.proofs.Common.{Some, None, Result, Ok, Err, OnOk, OnErr, refl, sym, ap}
 use Rattle.std.proofs.Common.{◌∙◌, subst, codes, append_assoc, if◌then◌else◌, is_ok, option_and_then}
-use Rattle.std.proofs.Common.{length, take, arith}
+use Rattle.std.proofs.Common.{length, take, arith, IsUtf8}
 use Rattle.std.proofs.lemmas.List.{take-append-le, take_all}
-use Rattle.serde_json.specs.Data.{Data}
+use Rattle.serde_json.specs.Read.{read as read_text}
 use Rattle.strkw_report.specs.Kinds.{Report}
 use Rattle.strkw_report.specs.Refusals.{reason_of, refusal_of, out_of_memory}
 use Rattle.strkw_report.specs.declared.refusal.CompileError.{CompileError}
@@ -19,13 +19,12 @@ use Rattle.strkw_keywords.proofs.Folding.{interval_is_left}
 use Rattle.strkw_object.specs.declared.strings.StringKeywords.{StringKeywords}
 use Rattle.strkw_object.specs.Compiled.{IsCompiledFrom, keywords_assertions, keywords_interval, keywords_remarks}
 use Rattle.strkw_keywords.specs.Compiled.{out_of_memory_refusal}
-use Rattle.strkw_json.specs.Json.{IsReading}
 use Rattle.strkw_cli.specs.Request.{Request, request_in}
 use Rattle.strkw_print.specs.Printed.{note_lines, refused_line}
 use Rattle.strkw_report.specs.Standings.{root_site}
 use Rattle.strkw_cli.specs.Answer.{settings_for, Answers, IsAnswer, TellsFold, verdict_lines}
 use Rattle.strkw_cache.specs.Told.{IsTold}
-use Rattle.strkw_cli.proofs.Asked.{nothing_read}
+use Rattle.strkw_cli.proofs.Asked.{nothing_read, reading_of}
 use Rattle.strkw_object.proofs.Meaning.{compiled_folds}
 
 -- what is told of folding, by what holds exactly where P does
@@ -156,12 +155,20 @@ appended_answer result outcome r k lists fold node old mid new folds is none of 
     (subst (λ l. OnOk result ((errors : List Report) × (new ≡ mid ++ found_lines node errors (keywords_remarks k))
     × NodeReports (keywords_assertions outcome k) l root_site node errors)) none found))
 
--- what answers the request that a line is, is the answer to the line
-pub answered_by : (line old new : List ℕ) (read : Option Data) (r : Request) → IsReading line read → option_and_then request_in read ≡ Some r
+-- what answers the request that a text is, is the answer to the text as a line
+pub answered_by : (text old new : List ℕ) (r : Request) → IsUtf8 text → option_and_then request_in (read_text text) ≡ Some r
     → ((made : List ℕ) × (new ≡ old ++ made) × Answers (Some r) made)
-    → (made : List ℕ) × (new ≡ old ++ made) × IsAnswer line made
-answered_by line old new read r reading same (made, grown, answers) =
-    (made, grown, record { value = read; is_reading = reading; answers = subst (λ found. Answers found made) (sym same) answers })
+    → (made : List ℕ) × (new ≡ old ++ made) × IsAnswer text made
+answered_by text old new r utf8 same (made, grown, answers) =
+    (made, grown, record { value = read_text text; is_reading = reading_of text _ utf8 refl; answers = subst (λ found. Answers found made) (sym same) answers })
+
+-- the answer to a text that is no request
+pub answer_to_none : (text : List ℕ) → IsUtf8 text → option_and_then request_in (read_text text) ≡ None → IsAnswer text (codes "bad request\nend\n")
+answer_to_none text utf8 none = record {
+  value = read_text text;
+  is_reading = reading_of text _ utf8 refl;
+  answers = subst (λ found. Answers found (codes "bad request\nend\n")) (sym none) refl;
+}
 
 -- the answer to a line of no bytes
 pub answer_to_nothing : IsAnswer [] (codes "bad request\nend\n")

@@ -1,6 +1,6 @@
 -- The request that a text is, by its tokens.
 use Rattle.std.proofs.Common.{◌≡◌, ℕ, ◌-◌, ◌<◌, nat_lt, List, [], ◌∷◌, length, false, Option, Some}
-use Rattle.std.proofs.Common.{None, option_and_then, refl, sym, ap, ◌∙◌, true≢false, arith}
+use Rattle.std.proofs.Common.{None, option_and_then, refl, ap, ◌∙◌, true≢false, arith}
 use Rattle.std.specs.Str.{IsUtf8}
 use Rattle.json.specs.Token.{Token}
 use Rattle.json.specs.Lex.{Lexeme, token, comma, colon, Class, quote, backslash, operator, space, other, class, between, lex, lex_byte}
@@ -13,7 +13,8 @@ use Rattle.strkw_json.specs.Passing.{items_read, members_read}
 use Rattle.strkw_json.proofs.FirstTokens.{seen, none_seen, none_seen_if, none_in_number}
 use Rattle.strkw_json.proofs.Reading.{first_read, at_end, no_key, read_by_tokens}
 use Rattle.strkw_json.specs.Json.{IsReading}
-use Rattle.strkw_cli.specs.Request.{Request, request_in, request_of_members}
+use Rattle.strkw_cli.specs.Request.{request_in, request_of_members}
+use Rattle.strkw_cli.specs.Parts.{request_left}
 use Rattle.strkw_cli.specs.Tokens.{begins_object}
 
 -- ---- whether it begins with an object
@@ -33,6 +34,12 @@ no_object_first depth (Token.boolean b ∷ ts) none = refl
 no_object_first depth (Token.null ∷ ts) none = refl
 no_object_first depth (Token.bad ∷ ts) none = refl
 
+-- what was read of an object is a request if nothing is left
+by_what_is_left : (read : Option (Members × List Token)) → option_and_then request_in (at_end (parse_map object read)) ≡ request_left read
+by_what_is_left None = refl
+by_what_is_left (Some (ms, [])) = refl
+by_what_is_left (Some (ms, t ∷ ts)) = refl
+
 -- ---- the request, by the members of the object
 
 module _ (text : List ℕ) where
@@ -41,16 +48,14 @@ module _ (text : List ℕ) where
       → option_and_then request_in (read_text text) ≡ option_and_then request_in (at_end (parse_map object (members_read 126 ts)))
   by_object ts first = ap (option_and_then request_in) (read_by_tokens text ∙ ap (λ x. at_end (first_read 127 x)) first)
 
+  -- so it is that of what was read, if nothing is left
+  pub by_members : (ts : List Token) → tokens text ≡ Token.begin_object ∷ ts → option_and_then request_in (read_text text) ≡ request_left (members_read 126 ts)
+  by_members ts first = by_object ts first ∙ by_what_is_left (members_read 126 ts)
+
   -- where the members are read and nothing is left, the request is that of the members
   pub asked : (ts : List Token) (ms : Members) → tokens text ≡ Token.begin_object ∷ ts → members_read 126 ts ≡ Some (ms, [])
       → option_and_then request_in (read_text text) ≡ request_of_members ms
   asked ts ms first read = by_object ts first ∙ ap (λ r. option_and_then request_in (at_end (parse_map object r))) read
-
-  -- where tokens are left behind the members, there is no request
-  pub asked_with_more : (ts : List Token) (ms : Members) (t : Token) (more : List Token) → tokens text ≡ Token.begin_object ∷ ts
-      → members_read 126 ts ≡ Some (ms, t ∷ more)
-      → option_and_then request_in (read_text text) ≡ None
-  asked_with_more ts ms t more first read = by_object ts first ∙ ap (λ r. option_and_then request_in (at_end (parse_map object r))) read
 
   -- where no members are read, there is no request
   pub no_members_read : (ts : List Token) → tokens text ≡ Token.begin_object ∷ ts → members_read 126 ts ≡ None
@@ -110,15 +115,9 @@ pub nothing_read : read_text [] ≡ None
 unfolding lex punctuate
 nothing_read = read_by_tokens []
 
--- ---- the line that a text is
+-- ---- the reading of a line
 
--- the reading of a text that is UTF-8, whatever is read
-reading_of : (text : List ℕ) (o : Option Data) → IsUtf8 text → read_text text ≡ o → IsReading text o
+-- of a line that is UTF-8 its reading is what is read of it
+pub reading_of : (text : List ℕ) (o : Option Data) → IsUtf8 text → read_text text ≡ o → IsReading text o
 reading_of text None utf8 read = λ u. read
 reading_of text (Some d) utf8 read = (utf8, read)
-
--- what a text is as a request, a line of its bytes is
-pub line_of_text : (line text : List ℕ) (found : Option Request) → text ≡ line → IsUtf8 line → option_and_then request_in (read_text text) ≡ found
-    → (read : Option Data) × IsReading line read × (option_and_then request_in read ≡ found)
-line_of_text line text found same utf8 is =
-    (read_text line, reading_of line (read_text line) utf8 refl, ap (λ t. option_and_then request_in (read_text t)) (sym same) ∙ is)

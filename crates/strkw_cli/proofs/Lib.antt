@@ -12,3 +12,4 @@ pub mod Sharing
 pub mod Parts
 pub mod Scalars
 pub mod Verdicts
+pub mod Begun

@@ -1,16 +1,22 @@
 -- What the members of a request come to, as they are read. The functions below `read_request` speak
 -- of it, and no public clause does.
 use Rattle.std.specs.Bool.{MatchBool}
-use Rattle.std.specs.Prelude.{◌≡◌, ◌&&◌, ℕ, Bool, List, IfSome, Option, Some, option_map, codes}
+use Rattle.std.specs.Prelude.{◌≡◌, ◌&&◌, ℕ, Bool, List, [], ◌∷◌, IfSome, Option, Some, None}
+use Rattle.std.specs.Prelude.{option_map, codes}
 use Rattle.std.specs.Prelude.{option_and_then, if◌then◌else◌}
 use Rattle.std.specs.Str.{bytes_eq}
+use Rattle.json.specs.Json.{members, value}
+use Rattle.json.specs.Token.{Token}
 use Rattle.serde_json.specs.Data.{Data, Members}
+use Rattle.serde_json.specs.Read.{converted, of_members}
 use Rattle.serde_json.specs.Find.{get_member, as_str, as_object}
 use Rattle.strkw_report.specs.Drafts.{draft_in}
 use Rattle.strkw_object.specs.declared.values.OwnedValues.{OwnedValues}
 use Rattle.strkw_cli.specs.Both.{AreBoth}
 use Rattle.strkw_cli.specs.Borrowed.{IsObject, IsRight}
-use Rattle.strkw_cli.specs.Request.{flag_in, is_request_key, has_only_request_keys}
+use Rattle.strkw_cache.specs.Depths.{member_depth}
+use Rattle.strkw_cli.specs.Request.{Request, flag_in, is_request_key, has_only_request_keys}
+use Rattle.strkw_cli.specs.Request.{request_of_members}
 use Rattle.strkw_cli.specs.declared.request.Parts.{Parts}
 
 -- the text of the instance that parts hold
@@ -53,3 +59,14 @@ pub record Takes (cached : Bool) (name : List ℕ) (d : Data) (v w : OwnedValues
     pub fold : q.fold ≡ part_after (codes "fold") name (flag_in (Some d)) p.fold
     pub known : q.has_only_request_keys ≡ (is_request_key name && p.has_only_request_keys)
     pub right : IfSome p.schema (IsRight cached) → IfSome q.schema (IsRight cached)
+
+-- what is read of the members that are left, in so many turns at most, behind those that were found
+abbrev pub members_behind : ℕ → Members → List Token → Option (Members × List Token)
+members_behind turns found ts = converted (λ ms. of_members ms found)
+    (members (value member_depth) turns ts)
+
+-- the request of what was read, if nothing is left
+abbrev pub request_left : Option (Members × List Token) → Option Request
+request_left None = None
+request_left (Some (ms, [])) = request_of_members ms
+request_left (Some (ms, t ∷ ts)) = None

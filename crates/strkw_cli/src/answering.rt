@@ -48,6 +48,25 @@ pub(super) fn answer_with(
     ensures err { OnErr result (out.new.items ≡ out.old.items) }
     ensures sound { IsSound held.new }
 {
+    match simdutf8::basic::from_utf8(line) {
+        Ok(text) => answer_text(alloc, text, held, out),
+        Err(_) => push_bad_request(out),
+    }
+}
+
+/// The same of a line that is known to be UTF-8.
+pub(super) fn answer_text(
+    alloc: Global,
+    line: &str,
+    held: &mut Held,
+    out: &mut Vec<u8>,
+) -> Result<(), AllocError>
+    requires { IsSound held.old }
+    ensures ok { OnOk result ((made : List ℕ) × (out.new.items ≡ out.old.items ++ made)
+        × IsAnswer line.now made) }
+    ensures err { OnErr result (out.new.items ≡ out.old.items) }
+    ensures sound { IsSound held.new }
+{
     if line.is_empty() {
         return push_bad_request(out);
     }
@@ -55,7 +74,9 @@ pub(super) fn answer_with(
     let values = &mut held.values;
     let object = held.cache.object.as_ref();
     let result = match answer_line(alloc, line, &mut held.scratch, object, values, out) {
-        Ok(seen) => held.cache.see(alloc, &mut held.scratch, values, line, seen),
+        Ok(seen) => held
+            .cache
+            .see(alloc, &mut held.scratch, values, line.as_bytes(), seen),
         Err(Unanswered::Memory) => Err(AllocError),
         Err(Unanswered::Differs) => {
             held.cache.forget();
@@ -71,7 +92,7 @@ pub(super) fn answer_with(
 // Appends the answer to a line, or a beginning of it where it is out of memory, and caches nothing.
 fn answer_anew(
     alloc: Global,
-    line: &[u8],
+    line: &str,
     scratch: &mut Scratch,
     values: &mut OwnedValues,
     out: &mut Vec<u8>,
@@ -91,7 +112,7 @@ fn answer_anew(
 // stands, where that was compiled anew. It differs where the object is cached, and compiled under other terms.
 fn answer_line(
     alloc: Global,
-    line: &[u8],
+    line: &str,
     scratch: &mut Scratch,
     cached: Option<&CachedObject>,
     values: &mut OwnedValues,

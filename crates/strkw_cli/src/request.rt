@@ -1,6 +1,6 @@
 //! The request that a line is.
 
-ghost use Rattle.std.specs.Prelude.{◌<◌, ◌∷◌, ◌≡◌, Bool, IfOk, IfSome, IsErrOf, None, OnOk, Option, Some, false, is_some, length, option_and_then};
+ghost use Rattle.std.specs.Prelude.{◌<◌, ◌≤◌, ◌∷◌, ◌≡◌, ℕ, Bool, IfOk, IfSome, IsErrOf, None, OnOk, Option, Some, false, is_some, length, option_and_then};
 ghost use Rattle.std.specs.Bool.{MatchBool};
 ghost use Rattle.json.specs.Token.{begin_object};
 ghost use Rattle.serde_json.specs.Data.{Data, Members, no_members};
@@ -12,9 +12,8 @@ ghost use Rattle.strkw_cache.specs.Cached.{IsCached};
 ghost use Rattle.strkw_cache.specs.Depths.{member_depth};
 ghost use Rattle.strkw_cli.specs.Borrowed.{IsObject, IsRequest, IsRight};
 ghost use Rattle.strkw_cli.specs.Both.{AreBoth};
-ghost use Rattle.strkw_cli.specs.Parts.{AreParts, Takes};
+ghost use Rattle.strkw_cli.specs.Parts.{AreParts, Takes, members_behind, request_left};
 ghost use Rattle.strkw_report.specs.Drafts.{draft_in, draft_numbered};
-ghost use Rattle.strkw_json.specs.Json.{IsReading};
 ghost use Rattle.strkw_cli.specs.Request.{flag_in, request_in, request_of_members};
 ghost use Rattle.strkw_cli.specs.Tokens.{begins_object};
 
@@ -22,7 +21,9 @@ use super::unread::{Unanswered, Unread};
 use json::{Reader, Scratch, Token};
 use serde_json::Value;
 use std::alloc::Global;
-use strkw_cache::{CachedObject, MEMBER_DEPTH, Occurrence, Terms, read_asked, read_values};
+use strkw_cache::{
+    CachedObject, MEMBER_DEPTH, Occurrence, Terms, read_asked, read_values, split_draft,
+};
 use strkw_json::{json_scalar, json_text};
 use strkw_object::OwnedValues;
 use strkw_report::{Draft, draft_in};
@@ -83,10 +84,11 @@ fn read_flag(tokens: &mut Reader<'_>) -> Result<Option<Option<bool>>, Unread>
     }
 }
 
-/// The text of a line, and the schema object that is cached.
+/// The text of a line or its end, how many bytes stand before that, and the schema object that is cached.
 #[derive(Clone, Copy)]
 pub(super) struct Line<'a> {
     text: &'a str,
+    before: usize,
     cached: Option<&'a CachedObject>,
 }
 
@@ -119,7 +121,8 @@ fn read_schema<'a>(
         }
         _ => {
             let is_object = read_values(alloc, tokens, values)?;
-            Ok(is_object.then_some(Schema::Read(start, tokens.offset())))
+            let end = line.before.saturating_add(tokens.offset());
+            Ok(is_object.then_some(Schema::Read(line.before.saturating_add(start), end)))
         }
     }
 }
@@ -137,6 +140,23 @@ struct Parts<'a> {
 }
 
 impl<'a> Parts<'a> {
+    // Those of no members.
+    #[inline(always)]
+    fn none() -> Self
+        ensures { (cached : Bool) (values : OwnedValues)
+            → AreParts cached values result no_members }
+    {
+        Parts {
+            draft: None,
+            schema: None,
+            instance: None,
+            validate_formats: Some(None),
+            ignore_unknown_formats: Some(None),
+            fold: Some(None),
+            has_only_request_keys: true,
+        }
+    }
+
     // Takes the value of a member of this name.
     fn take_member(
         &mut self,
@@ -200,37 +220,105 @@ impl<'a> Parts<'a> {
     }
 }
 
-// What the members that are left of an object come to, up to its end.
+// What the members that are left of an object come to, up to its end, behind those that came to these parts.
 #[inline(always)]
 fn parts_in<'a>(
     alloc: Global,
     line: Line<'a>,
     tokens: &mut Reader<'a>,
     values: &mut OwnedValues,
+    mut parts: Parts<'a>,
 ) -> Result<Parts<'a>, Unread>
     requires { IfSome line.cached (λ object. IsCached object.now) }
-    ensures ok { IfOk result (λ parts. (ms : Members)
-        × (members_read member_depth tokens.old ≡ Some (ms, tokens.new))
-        × AreParts (is_some line.entry.cached) values.new parts ms) }
-    ensures none { IsErrOf result Unread.NotJson → members_read member_depth tokens.old ≡ None }
+    ensures ok { (found : Members) (turns : ℕ) → length tokens.old ≤ turns
+        → AreParts (is_some line.entry.cached) values.old parts.entry found
+        → IfOk result (λ whole. (ms : Members)
+        × (members_behind turns found tokens.old ≡ Some (ms, tokens.new))
+        × AreParts (is_some line.entry.cached) values.new whole ms) }
+    ensures none { (found : Members) (turns : ℕ) → length tokens.old ≤ turns
+        → AreParts (is_some line.entry.cached) values.old parts.entry found
+        → IsErrOf result Unread.NotJson → members_behind turns found tokens.old ≡ None }
     ensures same { line.entry.cached ≡ None → IsErrOf result Unread.Differs → ⊥ }
 {
-    let mut parts = Parts {
-        draft: None,
-        schema: None,
-        instance: None,
-        validate_formats: Some(None),
-        ignore_unknown_formats: Some(None),
-        fold: Some(None),
-        has_only_request_keys: true,
-    };
     'members: while let Some(name) = tokens.next_key()? {
         parts.take_member(alloc, line, name, tokens, values)?;
     }
     Ok(parts)
 }
 
-// The request that a text is by its members, in whatever order they come.
+// The request that the members that are left come to, behind those that came to these parts.
+fn request_behind<'a>(
+    alloc: Global,
+    line: Line<'a>,
+    mut tokens: Reader<'a>,
+    values: &mut OwnedValues,
+    parts: Parts<'a>,
+) -> Result<Option<Request<'a>>, Unread>
+    requires { IfSome line.cached (λ object. IsCached object.now) }
+    ensures ok { (found : Members) (turns : ℕ) → length tokens.entry ≤ turns
+        → AreParts (is_some line.entry.cached) values.old parts.entry found
+        → IfOk result (λ request. AreBoth (IsRequest values.new) request
+        (request_left (members_behind turns found tokens.entry))) }
+    ensures right { (found : Members) (turns : ℕ) → length tokens.entry ≤ turns
+        → AreParts (is_some line.entry.cached) values.old parts.entry found
+        → IfOk result (λ request. IfSome request
+        (λ r. IsRight (is_some line.entry.cached) r.schema)) }
+    ensures none { (found : Members) (turns : ℕ) → length tokens.entry ≤ turns
+        → AreParts (is_some line.entry.cached) values.old parts.entry found
+        → IsErrOf result Unread.NotJson
+        → request_left (members_behind turns found tokens.entry) ≡ None }
+    ensures same { line.entry.cached ≡ None → IsErrOf result Unread.Differs → ⊥ }
+{
+    let whole = parts_in(alloc, line, &mut tokens, values, parts)?;
+    match tokens.next() {
+        None => Ok(whole.into_request()),
+        Some(_) => Ok(None),
+    }
+}
+
+// The request that a text is by its members, in whatever order they come. Where the draft and the schema object come first,
+// with nothing between the tokens, the draft is told by the bytes.
+fn request_in_text<'a>(
+    alloc: Global,
+    text: &'a str,
+    scratch: &'a mut Scratch,
+    cached: Option<&'a CachedObject>,
+    values: &mut OwnedValues,
+) -> Result<Option<Request<'a>>, Unread>
+    requires { IfSome cached (λ object. IsCached object.now) }
+    ensures ok { IfOk result (λ request. AreBoth (IsRequest values.new) request
+        (option_and_then request_in (read_text text.now))) }
+    ensures right { IfOk result (λ request. IfSome request
+        (λ r. IsRight (is_some cached.entry) r.schema)) }
+    ensures none { IsErrOf result Unread.NotJson
+        → option_and_then request_in (read_text text.now) ≡ None }
+    ensures same { cached.entry ≡ None → IsErrOf result Unread.Differs → ⊥ }
+{
+    let mut parts = Parts::none();
+    let Some((draft, behind)) = split_draft(text) else {
+        let mut tokens = Reader::new(text, scratch)?;
+        let Some(Token::BeginObject) = tokens.next() else {
+            return Ok(None);
+        };
+        let line = Line {
+            text,
+            before: 0,
+            cached,
+        };
+        return request_behind(alloc, line, tokens, values, parts);
+    };
+    let line = Line {
+        text: behind,
+        before: text.len().saturating_sub(behind.len()),
+        cached,
+    };
+    let mut tokens = Reader::new(behind, scratch)?;
+    parts.draft = Some(draft);
+    parts.schema = read_schema(alloc, line, &mut tokens, values)?;
+    request_behind(alloc, line, tokens, values, parts)
+}
+
+// The same, where a text that is no JSON is no request.
 fn read_members<'a>(
     alloc: Global,
     text: &'a str,
@@ -245,15 +333,8 @@ fn read_members<'a>(
         (λ r. IsRight (is_some cached.entry) r.schema)) }
     ensures same { cached.entry ≡ None → IsErrOf result Unanswered.Differs → ⊥ }
 {
-    let mut tokens = Reader::new(text, scratch)?;
-    let Some(Token::BeginObject) = tokens.next() else {
-        return Ok(None);
-    };
-    match parts_in(alloc, Line { text, cached }, &mut tokens, values) {
-        Ok(parts) => match tokens.next() {
-            None => Ok(parts.into_request()),
-            Some(_) => Ok(None),
-        },
+    match request_in_text(alloc, text, scratch, cached, values) {
+        Ok(request) => Ok(request),
         Err(Unread::NotJson) => Ok(None),
         Err(Unread::Memory) => Err(Unanswered::Memory),
         Err(Unread::Differs) => Err(Unanswered::Differs),
@@ -266,21 +347,18 @@ fn read_members<'a>(
 /// differs where the line has the text of the object that is cached, and other tokens.
 pub(super) fn read_request<'a>(
     alloc: Global,
-    line: &'a [u8],
+    text: &'a str,
     scratch: &'a mut Scratch,
     cached: Option<&'a CachedObject>,
     values: &mut OwnedValues,
 ) -> Result<Option<Request<'a>>, Unanswered>
     requires { IfSome cached (λ object. IsCached object.now) }
-    ensures ok { IfOk result (λ request. (read : Option Data) × IsReading line.now read
-        × AreBoth (IsRequest values.new) request (option_and_then request_in read)) }
+    ensures ok { IfOk result (λ request. AreBoth (IsRequest values.new) request
+        (option_and_then request_in (read_text text.now))) }
     ensures right { IfOk result (λ request. IfSome request
         (λ r. IsRight (is_some cached.entry) r.schema)) }
     ensures same { cached.entry ≡ None → IsErrOf result Unanswered.Differs → ⊥ }
 {
-    let Ok(text) = simdutf8::basic::from_utf8(line) else {
-        return Ok(None);
-    };
     if let Some(object) = cached {
         if let Some(asked) = object.text_asked(text) {
             return Ok(Some(Request {

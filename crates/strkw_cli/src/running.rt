@@ -10,10 +10,10 @@ ghost use Rattle.strkw_cli.specs.Lines.{ended_lines, last_part, lines};
 ghost use Rattle.strkw_cli.specs.Outcome.{AnswersSome, IsOutcome};
 ghost use Rattle.strkw_cli.specs.Serving.{Serves};
 
-use super::answering::answer_with;
+use super::answering::{answer_text, answer_with};
 use super::faults::{BoundedRunFault, RunFault};
 use super::held::Held;
-use memchr::memchr;
+use memchr::{memchr, memrchr};
 use std::alloc::{AllocError, Global};
 use strkw_devices::{Sink, Source};
 
@@ -41,24 +41,41 @@ fn answer_piece(
         × AnswersSome (ended_lines (line.old.items ++ piece.now)) written) }
     ensures sound { IsSound held.new }
 {
+    let text = text_of_lines(piece);
     let mut at = 0;
     while let Some(offset) = memchr(b'\n', &piece[at..]) {
         let end = at + offset;
-        answer_ending(alloc, &piece[at..end], line, held, out)?;
+        answer_ending(alloc, &piece[at..end], text.get(at..end), line, held, out)?;
         at = end + 1;
     }
     line.extend_from_slice(&piece[at..])
 }
 
-// Answers the line that ends here, and keeps none of it. A line that lies whole in the piece is not copied.
+// The text of a piece up to its last line feed, or nothing where that is not UTF-8.
+fn text_of_lines(piece: &[u8]) -> &str
+    ensures { (rest : List ℕ) × (piece.now ≡ result.now ++ rest) }
+{
+    let Some(end) = memrchr(b'\n', piece) else {
+        return "";
+    };
+    match simdutf8::basic::from_utf8(&piece[..end]) {
+        Ok(text) => text,
+        Err(_) => "",
+    }
+}
+
+// Answers the line that ends here, and keeps none of it. A line that lies whole in the piece is not copied, and not asked
+// whether it is UTF-8 where its text is known.
 fn answer_ending(
     alloc: Global,
     ending: &[u8],
+    text: Option<&str>,
     line: &mut Vec<u8>,
     held: &mut Held,
     out: &mut Vec<u8>,
 ) -> Result<(), AllocError>
     requires sound { IsSound held.old }
+    requires same { IfSome text (λ t. t.now ≡ ending.now) }
     ensures ok { OnOk result ((made : List ℕ) × (out.new.items ≡ out.old.items ++ made)
         × IsAnswer (line.old.items ++ ending.now) made) }
     ensures cleared { OnOk result (line.new.items ≡ []) }
@@ -66,7 +83,10 @@ fn answer_ending(
     ensures sound { IsSound held.new }
 {
     if line.is_empty() {
-        return answer_with(alloc, ending, held, out);
+        return match text {
+            Some(text) => answer_text(alloc, text, held, out),
+            None => answer_with(alloc, ending, held, out),
+        };
     }
     line.extend_from_slice(ending)?;
     answer_with(alloc, line, held, out)?;

@@ -31,6 +31,14 @@ impl From<JsonError> for Unread {
     }
 }
 
+impl From<AllocError> for Unread {
+    ghost from_gives = { λ _ u. u ≡ Memory };
+
+    fn from(_e: AllocError) -> Self {
+        Self::Memory
+    }
+}
+
 impl From<Invalid> for Unread {
     ghost from_gives = { λ _ u. u ≡ NotJson };
 

@@ -5,8 +5,8 @@ use Rattle.strkw_object.proofs.Results.{on_err, on_ok}
 use Rattle.strkw_cli.specs.Answer.{IsAnswer}
 use Rattle.strkw_cache.proofs.Telling.{made_appended}
 use Rattle.strkw_cli.proofs.AnswerCases.{answer_to_nothing, cut_back, grown_anyway}
-use Rattle.strkw_cli.proofs.answering.answer_with.Goals as goal
-use Rattle.strkw_cli.proofs.answering.answer_with.Goals.{in-Ok, in-Err-Memory, in-Err-Differs}
+use Rattle.strkw_cli.proofs.answering.answer_text.Goals as goal
+use Rattle.strkw_cli.proofs.answering.answer_text.Goals.{in-Ok, in-Err-Memory, in-Err-Differs}
 
 pub returns-then-is_empty-clause-ok : goal.returns-then-is_empty-clause-ok
 returns-then-is_empty-clause-ok c =
