@@ -75,7 +75,45 @@ static const struct {
     {"is_regex", strkw_is_regex, "(?<year>\\d{4})-\\k<year>", "(?<year>\\d{4})-\\k<month>"},
 };
 
+/* Texts that are of one kind and not of another that is near it: RFC 3339, 3986, 3987, 5321 and 6531, 6901, 1123. */
+static const struct {
+    const char *name;
+    bool (*check)(const uint8_t *, size_t);
+    const char *text;
+    bool is_right;
+} near_formats[] = {
+    {"is_date", strkw_is_date, "2024-02-29T12:00:00Z", false},
+    {"is_time", strkw_is_time, "2024-02-29T12:00:00Z", false},
+    {"is_date_time", strkw_is_date_time, "2024-02-29", false},
+    {"is_date_time", strkw_is_date_time, "12:00:00Z", false},
+    {"is_duration", strkw_is_duration, "12:00:00Z", false},
+    {"is_hostname", strkw_is_hostname, "ab--c", false},
+    {"is_hostname", strkw_is_hostname, "b\303\274cher.example", false},
+    {"is_hostname_draft4", strkw_is_hostname_draft4, "b\303\274cher.example", false},
+    {"is_ipv4", strkw_is_ipv4, "::1", false},
+    {"is_ipv6", strkw_is_ipv6, "192.0.2.1", false},
+    {"is_uri", strkw_is_uri, "/a", false},
+    {"is_uri", strkw_is_uri, "http://{a}", false},
+    {"is_uri_reference", strkw_is_uri_reference, "/r\303\251sum\303\251", false},
+    {"is_uri_reference", strkw_is_uri_reference, "/{var}", false},
+    {"is_iri", strkw_is_iri, "//example.com/a", false},
+    {"is_iri", strkw_is_iri, "ftp://ftp.is.co.za/rfc/rfc1808.txt", true},
+    {"is_iri_reference", strkw_is_iri_reference, "/{var}", false},
+    {"is_iri_reference", strkw_is_iri_reference, "//example.com/a?b#c", true},
+    {"is_json_pointer", strkw_is_json_pointer, "1/foo", false},
+    {"is_json_pointer", strkw_is_json_pointer, "/a b", true},
+    {"is_relative_json_pointer", strkw_is_relative_json_pointer, "/foo", false},
+    {"is_relative_json_pointer", strkw_is_relative_json_pointer, "0#", true},
+    {"is_email", strkw_is_email, "j\303\274rgen@example.com", false},
+};
+
 static void call_formats(void) {
+    for (size_t i = 0; i < sizeof near_formats / sizeof *near_formats; i++) {
+        const char *text = near_formats[i].text;
+        bool is_right = near_formats[i].is_right;
+        row(near_formats[i].name, is_right ? "right" : "wrong", text,
+            near_formats[i].check(text_of(text), strlen(text)) == is_right);
+    }
     for (size_t i = 0; i < sizeof formats / sizeof *formats; i++) {
         const char *name = formats[i].name, *right = formats[i].right, *wrong = formats[i].wrong;
         row(name, "right", right, formats[i].check(text_of(right), strlen(right)));
@@ -86,7 +124,37 @@ static void call_formats(void) {
     }
 }
 
+/* The same of what answers by a number: the alphabets of RFC 4648 (sections 4 to 8), RFC 5890 and 6531. */
+static const struct {
+    const char *name;
+    uint8_t (*check)(const uint8_t *, size_t);
+    const char *text;
+    uint8_t answer;
+} near_decisions[] = {
+    {"is_base64", strkw_is_base64, "/+8=", 1},
+    {"is_base64", strkw_is_base64, "_-8=", 0},
+    {"is_base64url", strkw_is_base64url, "_-8=", 1},
+    {"is_base64url", strkw_is_base64url, "/+8=", 0},
+    {"is_base32", strkw_is_base32, "CPNMUO18", 0},
+    {"is_base32", strkw_is_base32, "CPNMUOWZ", 1},
+    {"is_base32hex", strkw_is_base32hex, "CPNMUO18", 1},
+    {"is_base32hex", strkw_is_base32hex, "CPNMUOWZ", 0},
+    {"is_base16", strkw_is_base16, "MZXW6YQ2", 0},
+    {"is_json", strkw_is_json, "Zm9v", 0},
+    {"is_json", strkw_is_json, "\357\273\277{}", 0},
+    {"is_idn_email", strkw_is_idn_email, "ada@example.com", 1},
+    {"is_idn_email", strkw_is_idn_email, "b\303\274cher.example", 0},
+    {"is_idn_hostname", strkw_is_idn_hostname, "www.example.com", 1},
+    {"is_idn_hostname", strkw_is_idn_hostname, "ab--c", 0},
+};
+
 static void call_decisions(void) {
+    for (size_t i = 0; i < sizeof near_decisions / sizeof *near_decisions; i++) {
+        const char *text = near_decisions[i].text;
+        uint8_t answer = near_decisions[i].answer;
+        row(near_decisions[i].name, answer == 1 ? "right" : "wrong", text,
+            near_decisions[i].check(text_of(text), strlen(text)) == answer);
+    }
     for (size_t i = 0; i < sizeof decisions / sizeof *decisions; i++) {
         const char *name = decisions[i].name, *right = decisions[i].right, *wrong = decisions[i].wrong;
         row(name, "right", right, decisions[i].check(text_of(right), strlen(right)) == 1);
@@ -121,6 +189,8 @@ static void call_answer(void) {
 }
 
 static const char *MAIL = "{\"format\":\"email\"}", *IDN_HOST = "{\"format\":\"idn-hostname\"}";
+/* JSON begins with no byte order mark (RFC 8259, section 2). */
+static const char *MARKED = "\357\273\277{\"format\":\"date\"}";
 static const char *IDN_MAIL = "{\"format\":\"idn-email\"}", *REGEX = "{\"format\":\"regex\"}";
 
 /* strkw_check on five texts: a date, one that is none, one that is no UTF-8, and two empty ones. */
@@ -189,6 +259,8 @@ static void row_between(const char *kind, const char *what, bool holds) {
 
 static void call_check_offsets(void) {
     static const char *date = "{\"format\":\"date\"}";
+    static const size_t past[] = {3};
+    static const uint32_t past32[] = {3};
     const uint8_t *object = text_of("{}"), *ab = text_of("ab");
     uint8_t *out = room_of(1);
     row_between("right", "dates", checks_between(7, 0, date, STRKW_DONE, "\1\0\2\0\0"));
@@ -210,6 +282,13 @@ static void call_check_offsets(void) {
     row_between("refused", "room for one verdict", checks_offsets(0, 1, 2, 1, STRKW_NO_ROOM));
     row_between("refused", "room for three verdicts", checks_offsets(0, 1, 2, 3, STRKW_NO_ROOM));
     row_between("right", "one offset and no text", between(object, ab, 2, true, 1, NULL, 0) == STRKW_DONE);
+    row("check_offsets", "refused", "one offset past the texts",
+        strkw_check_offsets(7, 0, object, 2, ab, 2, past, 1, NULL, 0) == STRKW_NO_ROOM);
+    row("check_offsets32", "refused", "one offset past the texts",
+        strkw_check_offsets32(7, 0, object, 2, ab, 2, past32, 1, NULL, 0) == STRKW_NO_ROOM);
+    row_between("refused", "a byte order mark before the object",
+        checks_between(7, 0, MARKED, STRKW_NO_SCHEMA, NULL));
+    row_between("refused", "no bytes of an object", checks_between(7, 0, "", STRKW_NO_SCHEMA, NULL));
     row_between("refused", "no offset", between(object, ab, 2, false, 0, NULL, 0) == STRKW_NO_ROOM);
     row_between("refused", "no schema", between(NULL, ab, 2, true, 2, out, 1) == STRKW_NULL);
     row_between("refused", "no texts", between(object, NULL, 2, true, 2, out, 1) == STRKW_NULL);
@@ -243,6 +322,14 @@ static void call_check(void) {
     row("check", "refused", "option 8 and no object", checks(7, 8, "[]", STRKW_NO_OPTION, NULL));
     row("check", "refused", "no object", checks(7, 0, "[]", STRKW_NO_SCHEMA, NULL));
     row("check", "refused", "no JSON", checks(7, 0, "{", STRKW_NO_SCHEMA, NULL));
+    row("check", "refused", "no bytes of an object", checks(7, 0, "", STRKW_NO_SCHEMA, NULL));
+    row("check", "refused", "a byte order mark before the object", checks(7, 0, MARKED, STRKW_NO_SCHEMA, NULL));
+    row("check", "refused", "an unknown format that is not ignored, where the draft says whether formats are checked",
+        checks(7, as_draft, other, STRKW_REFUSED, NULL));
+    row("check", "right", "an unknown format that is ignored, where the draft says whether formats are checked",
+        checks(7, as_draft | ignored, other, STRKW_DONE, "\1\1\2\1\1"));
+    row("check", "right", "an unknown format that is not checked", checks(201909, as_draft, other, STRKW_DONE,
+        "\1\1\2\1\1"));
     row("check", "refused", "an unknown format", checks(7, 0, other, STRKW_REFUSED, NULL));
     row("check", "refused", "a limit that is none", checks(7, 0, "{\"maxLength\":-1}", STRKW_REFUSED, NULL));
     row("check", "right", "two texts", checks_ends(1, 2, 2, STRKW_DONE));
@@ -294,6 +381,8 @@ static void call_refusal(void) {
     row("refusal", "refused", "option 8 and no object", tells(7, 8, "[]", 99, STRKW_NO_OPTION, 77, NULL));
     row("refusal", "refused", "no object, no room", tells(7, 0, "[]", 0, STRKW_NO_SCHEMA, 77, NULL));
     row("refusal", "refused", "no object", tells(7, 0, "[]", 99, STRKW_NO_SCHEMA, 77, NULL));
+    row("refusal", "refused", "a byte order mark before the object",
+        tells(7, 0, MARKED, 99, STRKW_NO_SCHEMA, 77, NULL));
     row("refusal", "refused", "no schema", strkw_refusal(7, 0, NULL, 2, out, 1, &written) == STRKW_NULL);
     row("refusal", "refused", "no room", strkw_refusal(7, 0, object, 2, NULL, 1, &written) == STRKW_NULL);
     row("refusal", "refused", "no count", strkw_refusal(7, 0, object, 2, out, 1, NULL) == STRKW_NULL);
@@ -351,6 +440,8 @@ static void call_errors(void) {
     row("errors", "refused", "no UTF-8 and no object", writes(7, 0, "[]", "\377", 99, STRKW_NOT_UTF8, 77, NULL));
     row("errors", "refused", "an unknown format, no room", writes(7, 0, NO_FORMAT, "a", 0, STRKW_REFUSED, 77, NULL));
     row("errors", "refused", "no object", writes(7, 0, "[]", "a", 99, STRKW_NO_SCHEMA, 77, NULL));
+    row("errors", "refused", "a byte order mark before the object",
+        writes(7, 0, MARKED, "a", 99, STRKW_NO_SCHEMA, 77, NULL));
     row("errors", "refused", "an unknown format", writes(7, 0, NO_FORMAT, "a", 99, STRKW_REFUSED, 77, NULL));
     row("errors", "refused", "no schema", strkw_errors(7, 0, NULL, 2, object, 2, out, 1, &written) == STRKW_NULL);
     row("errors", "refused", "no text", strkw_errors(7, 0, object, 2, NULL, 2, out, 1, &written) == STRKW_NULL);
@@ -359,10 +450,13 @@ static void call_errors(void) {
     row("errors", "refused", "nothing was written", written == 77 && !is_written(out, 1));
 }
 
-/* strkw_schema_compile, and whether it made nothing. */
+/* strkw_schema_compile, and whether it made nothing: the place for it is as it was. */
 static bool makes_none(uint32_t draft, uint32_t options, const char *schema, uint8_t status) {
-    strkw_schema *made = NULL;
-    return strkw_schema_compile(draft, options, text_of(schema), strlen(schema), &made) == status && made == NULL;
+    strkw_schema *none = NULL, *other = (strkw_schema *)&lists;
+    const size_t count = strlen(schema);
+    return strkw_schema_compile(draft, options, text_of(schema), count, &none) == status && none == NULL
+        && strkw_schema_compile(draft, options, text_of(schema), count, &other) == status
+        && other == (strkw_schema *)&lists;
 }
 
 /* strkw_schema_check on a date and a text that is none, and strkw_schema_errors on one of them. */
@@ -405,6 +499,8 @@ static void call_schemas(void) {
     row("schema_compile", "refused", "draft 5 and option 8", makes_none(5, 8, DATE, STRKW_NO_DRAFT));
     row("schema_compile", "refused", "option 8 and no object", makes_none(7, 8, "[]", STRKW_NO_OPTION));
     row("schema_compile", "refused", "no object", makes_none(7, 0, "[]", STRKW_NO_SCHEMA));
+    row("schema_compile", "refused", "a byte order mark before the object", makes_none(7, 0, MARKED, STRKW_NO_SCHEMA));
+    row("schema_compile", "refused", "no bytes of an object", makes_none(7, 0, "", STRKW_NO_SCHEMA));
     row("schema_compile", "refused", "nowhere", strkw_schema_compile(7, 0, text_of("{}"), 2, NULL) == STRKW_NULL);
     /* The sanitiser of addresses tells of one that is freed twice or not at all. */
     strkw_schema_free(made);

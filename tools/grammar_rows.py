@@ -77,6 +77,11 @@ def decoded(of, rows):
     return {"ask": "decoded", "of": of, "rows": rows}, 3 * len(rows)
 
 
+def names(of, rows):
+    """A name, and what it is the name of; `None` for nothing."""
+    return {"ask": "names", "of": of, "rows": rows}, len(rows)
+
+
 def analyses(rows):
     """A pattern, and which literal it stands for."""
     return {"ask": "analyses", "rows": rows}, len(rows)
@@ -121,6 +126,11 @@ def span(first, last):
 def in_forms(forms, parts):
     """Each part, put into each form."""
     return [form.format(part) for part in parts for form in forms]
+
+
+def with_each(constructs, places):
+    """Each construct between the two texts of each place."""
+    return [before + construct + behind for before, behind in places for construct in constructs]
 
 
 def words(letters, sizes):
@@ -188,10 +198,86 @@ def durations():
         yield from (text.replace("1", number) for number in ("1.5", "-1", "1,5"))
 
 
+def shapes():
+    """Each right row of units, with one amount changed: twice, long, with no digits, and with another character."""
+    dates, times = ("", "D", "M", "MD", "Y", "YM", "YMD"), ("", "H", "HM", "HMS", "M", "MS", "S")
+    for date, time in [*itertools.product(dates, times), ("W", "")]:
+        units = [*date, *time]
+        for at in range(len(units)):
+            for amount in ("5", "05", "5{0}6", "", "9" * 300, "5:", "/5", "5.", "-5", "\u0665"):
+                amounts = [f"{amount if place == at else 1}{unit}" for place, unit in enumerate(units)]
+                amounts = [told.replace("{0}", unit) for told, unit in zip(amounts, units)]
+                behind = "".join(amounts[len(date):])
+                yield f"P{''.join(amounts[:len(date)])}{'T' if behind else ''}{behind}"
+
+
 def around(text):
     """What may not stand around a text that is whole."""
     return [f"{BYTE_ORDER_MARK}{text}", f"{text}{BYTE_ORDER_MARK}", f"{text}\n", f"\n{text}", f"{text}\r\n", f"{text} ",
             f" {text}", f"{text}\u0000", f"{text}\u2028"]
+
+
+# What other programs take away from a text or put around it, and what they take for one of its characters.
+WRAPS = ("<{}>", "[{}]", "{{{}}}", "({})", '"{}"', "'{}'", "`{}`", "|{}|", "{}.", ".{}", "{}..", "{}/", "/{}", "{}\\",
+         "+{}", "-{}", "{}-", "_{}", "{}_", "{},", "{};", "{}:", ":{}", "{}?", "?{}", "{}#", "#{}", "{}=", "{}*",
+         "*.{}", "*{}", "${}", "~{}", "{}~", "!{}", "&{}", "^{}$", "{}%", "%{}", "{}%20", "mailto:{}", "urn:uuid:{}",
+         "uuid:{}", "http://{}", "//{}", "a:{}", "{}:80", "{}/24", "{}%1", "{}(a)", "(a){}", "a@{}", "{}@a", "{}T",
+         "{}Z", "0{}", "{}0", "{}{}", "{} {}", "{}\n{}", "{},{}", "{}\u000b", "\u000b{}", "{}\f", "{}\t", "\t{}",
+         "{}\u0085", "{}\u2029", "\u00a0{}", "{}\u3000")
+UNSEEN = ("\u0000\b\u001b\u007f\u0080\u0085\u009f\u00ad\u034f\u061c\u180e\u200b\u200c\u200d\u200e\u202a\u202c"
+          "\u2060\u2066\ufe0f\ufeff\ufff9\ufffd\ufffe\u0301\u20dd\ue000 \U000e0041\U000e0100\U0001f3fb\U0010ffff")
+LIKE = {"-": "\u2010\u2011\u2013\u2212\ufe63\uff0d_", ".": "\u3002\uff0e\uff61\u2024\u00b7,",
+        ":": "\uff1a\u2236\ua789;", "/": "\\\uff0f\u2044\u2215", "@": "\uff20\ufe6b", "%": "\uff05\u066a",
+        "#": "\uff03\u266f", "?": "\uff1f\u037e", "+": "\uff0b\ufe62", "=": "\uff1d", "[": "\uff3b(", "]": "\uff3d)",
+        "{": "\uff5b(", "}": "\uff5d)", "~": "\uff5e\u223c", "\"": "\u201c\u201d\uff02'", "*": "\uff0a",
+        ",": "\uff0c;"}
+
+
+def decorated(text):
+    """A text with something around it, with a character that is not seen, and with one that is like another."""
+    yield from (wrap.replace("{}", text) for wrap in WRAPS)
+    places = sorted({0, 1, len(text) // 2, len(text)})
+    yield from (text[:at] + sign + text[at:] for at in places for sign in UNSEEN if at <= len(text))
+    for at, character in enumerate(text):
+        others = LIKE.get(character, "") + character.swapcase()
+        if character.isascii() and character.isalnum():
+            others += chr(ord(character) + 0xFEE0)
+        if character.isdigit():
+            others += chr(0x660 + int(character)) + chr(0x966 + int(character)) + "\u00b2OolI"
+        yield from (text[:at] + other + text[at + 1:] for other in others)
+        yield f"{text[:at]}{character * 2}{text[at + 1:]}"
+        yield f"{text[:at]}%{ord(character):02X}{text[at + 1:]}"
+        yield text[:at] + text[at + 1:]
+    yield from (text.lower(), text.upper(), text.title(), text[::-1], unicodedata.normalize("NFD", text))
+
+
+def decorated_row(of, wholes, is_right):
+    """Right texts of a format, and each with what is around it or in it."""
+    return texts(of, [other for text in wholes for other in [text, *decorated(text)]], is_right)
+
+
+def changed_row(of, wholes, is_right):
+    """Each character of ASCII in the place of each character of right texts, and before each and behind the last."""
+    places = [[text[:at], text[at + size:]] for text in wholes for size in (1, 0) for at in range(len(text) + 1 - size)]
+    rows = [[before, behind, accepted_between(is_right, ASCII, before, behind)] for before, behind in places]
+    return characters(of, "", rows)
+
+
+def is_date(text):
+    """The rule full-date and its restrictions."""
+    found = re.fullmatch(r"([0-9]{4})-([0-9]{2})-([0-9]{2})", text)
+    year, month, day = map(int, found.groups()) if found else (0, 0, 0)
+    return found is not None and 1 <= month <= 12 and 1 <= day <= days_in(year, month)
+
+
+# The rule full-time without second 60.
+CLOCK = "(?:[01][0-9]|2[0-3]):[0-5][0-9]"
+is_time_of_day = whole(rf"{CLOCK}:[0-5][0-9](?:\.[0-9]+)?(?:[Zz]|[+-]{CLOCK})")
+
+
+def is_moment(text):
+    """The rule date-time without second 60."""
+    return is_date(text[:10]) and text[10:11] in ("T", "t") and is_time_of_day(text[11:])
 
 
 def day_rows():
@@ -247,8 +333,24 @@ OTHER_DURATIONS = (
     "P1Y2M3W4D", "P\u0661D", "P\uff11D", "P1DP1D", "P1D/P1D", "R5/P1D", "R/P1D")
 
 
+def decorated_times():
+    """Texts of each format with what stands around them and in them."""
+    yield "what other programs pass over, put around a text or take for a character of it"
+    yield decorated_row("date", ("2024-02-29", "0000-12-31"), is_date)
+    yield decorated_row("time", ("12:30:45Z", "12:30:45.5+01:00"), is_time_of_day)
+    yield decorated_row("date-time", ("2024-02-29T12:30:45Z", "2024-02-28t01:02:03.4-05:06"), is_moment)
+    yield decorated_row("duration", ("P1Y2M3DT4H5M6S", "P2W", "PT1S"), whole(DURATION))
+    yield "each character of ASCII in the place of each character, and between them"
+    yield changed_row("date", ("2024-02-29", "1999-12-31", "0400-10-01"), is_date)
+    yield changed_row("time", ("12:30:45Z", "09:59:08.5+01:00", "23:00:59.12-23:59"), is_time_of_day)
+    yield changed_row("date-time", ("2024-02-29T12:30:45z", "1999-12-31t23:59:59.9-00:01"), is_moment)
+    wholes = ("P1Y2M3DT4H5M6S", "P20W", "P1MT2M", "PT10S", "P3DT1H", "P1M2D", "P1Y2M", "PT1M2S", "PT1H2M", "P1D", "PT1H")
+    yield changed_row("duration", wholes, whole(DURATION))
+
+
 def time_rows():
     """The rows of dates, times, date-times and durations."""
+    yield from decorated_times()
     yield from day_rows()
     yield from offset_rows()
     yield "what stands around a text"
@@ -272,7 +374,29 @@ def time_rows():
         yield counts("duration", "9", 1, 1000, 1001, [["P", unit]])
     for unit in ("H", "M", "S"):
         yield counts("duration", "0", 1, 1000, 1001, [["PT", unit]])
-    yield counts("time", "0", 1, 1000, 1001, [["12:30:45.", "Z"]])
+    yield counts("time", "0", 1, 1000, 1001, [["12:30:45.", "Z"], ["12:30:45.", "+01:00"], ["23:59:60.", "-00:00"]])
+    dates = [["2024-02-29T12:30:45.", "Z"], ["2024-02-29t12:30:45.", "-23:59"], ["1816-12-31T23:59:60.", "z"]]
+    yield counts("date-time", "9", 1, 1000, 1001, dates)
+    yield "more digits than a number of a machine has, in each unit of a whole duration"
+    around_units = [["P", "Y1M1DT1H1M1S"], ["P1Y", "M1DT1H1M1S"], ["P1Y1M", "DT1H1M1S"], ["P1Y1M1DT", "H1M1S"],
+                    ["P1Y1M1DT1H", "M1S"], ["P1Y1M1DT1H1M", "S"], ["PT", "H1M"], ["PT1H", "M"], ["PT1M", "S"],
+                    ["P1M", "D"]]
+    yield counts("duration", "9", 1, 120, 121, around_units)
+    yield "no amount is too small or too great, and any digits are a fraction"
+    amounts = [f"{number:0{size}}" for number in (*range(62), 99, 100, 365, 366, 1000) for size in (1, 2, 4)]
+    yield texts("duration", shapes(), whole(DURATION))
+    forms = ("P{}Y", "P{}M", "P{}W", "P{}D", "PT{}H", "PT{}M", "PT{}S", "P1Y{}M", "PT1H{}M", "P1M{}D", "P1Y1M{}D",
+             "PT1M{}S", "PT1H1M{}S", "P1YT{}S", "P1DT{}M")
+    yield texts("duration", in_forms(forms, amounts), whole(DURATION))
+    fractions = words("09", (1, 2, 3)) + ["000000000", "123456789", "0000000001", "1234567890", "5" * 40]
+    times = [f"{time}.{fraction}{zone}" for time in ("12:30:45", "00:00:00", "23:59:60") for fraction in fractions
+             for zone in ("Z", "z", "+00:00", "-00:00")]
+    yield texts("time", times, lambda text: True)
+    moments = [f"{day}{time}" for day in ("0000-01-01T", "9999-12-31t", "1970-01-01T") for time in times]
+    yield texts("date-time", moments, lambda text: True)
+    edges = [f"{day}T{time}{zone}" for day in ("0000-01-01", "9999-12-31") for time in ("00:00:00", "23:59:59")
+             for zone in ("+00:01", "-00:01", "+23:59", "-23:59")]
+    yield texts("date-time", edges, lambda text: True)
 
 
 # Addresses, names and UUIDs: RFC 3986, section 3.2.2, RFC 1034, section 3.5, RFC 9562, section 4.
@@ -309,6 +433,11 @@ def addresses_of_six():
             yield from (f"{front}::{end}", f"{front}:{end}", f"{front}:::{end}", f"{front}::{end}::1")
     for last in ("12345", "00001", "0abcd", "g", "", ":", "%eth0", "%25e", "/64", " ", "\n", BYTE_ORDER_MARK, "１"):
         yield from (f"::{last}", f"1:2:3:4:5:6:7:{last}", f"{last}::1", f"[::{last}]", f"1::{last}:1")
+    fronts = ("::ffff:", "::FFFF:", "::ffff:0:", "64:ff9b::", "64:ff9b:1::", "0:0:0:0:0:ffff:", "::", "fe80::", "::1:")
+    lasts = ("1.2.3.4", "01.2.3.4", "1.2.3.04", "1.02.3.4", "1.2.003.4", "00.0.0.0", "0.0.0.0", "256.2.3.4",
+             "1.2.3.256", "1.2.3", "1.2.3.4.5", "1.2.3.4:5", "1.2.3.4:", "1.2.3.4::", "102:304")
+    for front, last in itertools.product(fronts, lasts):
+        yield front + last
 
 
 def addresses_of_four():
@@ -383,6 +512,15 @@ def net_rows():
     yield texts("ipv6", around("::1") + around("1:2:3:4:5:6:7:8"), never)
     yield from host_name_rows()
     yield from uuid_rows()
+    yield "what other programs pass over, put around a text or take for a character of it"
+    yield changed_row("ipv4", ("127.0.0.1", "255.249.199.99", "10.2.30.250"), whole(IPV4))
+    of_six = ("::", "1::2", "abcd:EF01:2::", "1:2:3:4:5:6:7:8", "::ffff:1.22.255.4", "1:2:3:4:5:6:7.8.9.0")
+    yield changed_row("ipv6", of_six, whole(IPV6))
+    yield changed_row("hostname of RFC 1034", ("a", "a1.b-c", "xn--a.1--2.Z"), whole(NAME))
+    yield decorated_row("ipv4", ("127.0.0.1", "10.20.30.40"), whole(IPV4))
+    yield decorated_row("ipv6", ("::1", "2001:db8::7", "1:2:3:4:5:6:7:8", "::ffff:1.2.3.4"), whole(IPV6))
+    yield decorated_row("uuid", ("f81d4fae-7dec-11d0-a765-00a0c91e6bf6",), whole(UUID))
+    yield decorated_row("hostname of RFC 1034", ("a.b-c.de", "1a", "xn--a.xn--b-c"), whole(NAME))
 
 
 # Mail addresses: RFC 5321, sections 4.1.2 and 4.1.3, with the lengths of section 4.5.3.1.
@@ -485,6 +623,80 @@ DOMAINS = ["b", "b.c", "b-c", "b_c", "-b", "b-", "b.", ".b", "b..c", "1", "1.2.3
            "xn--a", "\u00e9", BYTE_ORDER_MARK]
 
 
+def is_any_mailbox(text):
+    """RFC 6531, section 3.3, for any domain."""
+    local, _, domain = text.rpartition("@")
+    if domain.isascii():
+        return is_idn_mailbox(text)
+    is_local = whole(WIDE_LOCAL_PART)(local) and len(local.encode()) <= 64
+    return is_local and len(domain.encode()) <= 255 and is_domain_of_labels(f"a@{domain}")
+
+
+def is_past_ascii(point):
+    """Whether a character is past ASCII."""
+    return point > 0x7F
+
+
+def wide_character_rows():
+    """All characters past ASCII in local parts, and the lengths of an address with both parts at their most."""
+    yield "each character past ASCII in an atom and between quotes, and none behind a backslash (RFC 6531, section 3.3)"
+    yield sums("idn-email", [["a", "@b"]], lambda point: is_past_ascii(point) or chr(point) in ATEXTS, 0x8000, 0x20000)
+    yield sums("idn-email", [['"', '"@b']], lambda point: is_past_ascii(point) or chr(point) in QTEXTS, 0x8000, 0x20000)
+    yield sums("idn-email", [['"\\', '"@b']], lambda point: 32 <= point <= 126, 0x1000, 0x4000)
+    far = "".join(chr(plane * 0x10000 + at) for plane in range(2, 17) for at in (0, 0x1000, 0xFFFD, 0xFFFE, 0xFFFF))
+    yield characters("idn-email", far, [["a", "@b"], ['"', '"@b'], ["", "a@b"]], far)
+    yield "no limit is asked of the whole address: 64 octets and 255 octets stand together"
+    fronts = ["a" * size for size in (63, 64, 65)]
+    fronts += ["\u00e9" * 32, "\u4e00" * 21 + "a", "a\u00e9" * 21 + "a", "\u00e9" * 33]
+    rest = ".".join(["a" * 63] * 3)
+    behinds = [f"{rest}.{'a' * size}" for size in range(58, 64)] + [f"[b:{'c' * size}]" for size in range(248, 254)]
+    behinds += [f"\u00e9.{rest}.{'a' * size}" for size in range(54, 64)]
+    addresses = [f"{front}@{behind}" for front in fronts for behind in behinds]
+    yield texts("idn-email", addresses, fits_together)
+    yield texts("email", addresses, is_mailbox)
+    yield "no rule of mailboxes is asked, of names or of scripts: a local part is any atoms, and a domain any labels"
+    locals_of = ["1", "12", "-", "-a", "a-", "+", "a+b", "a/b", "a%b", "a!b", "a=b", "_", "'", "a'b", "{a}", "~", "#",
+                 "$a", "a&b", "*", "?", "^", "|", "`", '"1"', '"-"', '"a b"', '"@"', '"a"']
+    wide_locals = ["\u05d0", "\u05d0a", "a\u05d0", "\u0660", "a\u0430", "\u0430\u03b1", "\u0301", "a.\u0301",
+                   "\uff41", "\u00c9", "\u200d", "\u202ea", "\ue000", "\ufffe", "\u3000", "\u00a0a", '"\u05d0"',
+                   '"\u0301 a"']
+    domains_of = ["b", "b.c", "1", "b.1", "1.2", "b.c1", "b-c", "b--c", "xn--a", "localhost", "a" * 63 + ".b",
+                  "B.C", "[1.2.3.4]"]
+    yield texts("email", [f"{local}@{domain}" for local in locals_of for domain in domains_of], is_mailbox)
+    yield texts("idn-email", [f"{local}@{domain}" for local in locals_of + wide_locals for domain in domains_of],
+                is_idn_mailbox)
+    wide_ones = ["\u00e9", "b.\u00e9", "\u00e9.b", "\u00e9.1", "\u05d0", "\u05d0.b", "\u4e00.\u4e00"]
+    yield texts("idn-email", [f"{local}@{domain}" for local in locals_of + wide_locals for domain in wide_ones],
+                lambda text: True)
+    yield "labels with hyphens in third and fourth place, and XN-labels that encode nothing, beside U-labels"
+    odd = ["ab--c", "AB--C", "a---b", "xn--a", "XN--A", "xn--bcher-kvb", "1---1", "ab--", "--ab", "xn--"]
+    domains = [form.format(label) for form in ("{}", "\u00e9.{}", "{}.\u00e9", "b.{}.\u00e9") for label in odd]
+    yield texts("idn-email", [f"a@{domain}" for domain in domains],
+                lambda text: all(label == "\u00e9" or whole(LABEL)(label) for label in text[2:].split(".")))
+
+
+def fits_together(text):
+    """Whether an address of right characters has parts of at most 64 and 255 octets."""
+    local, _, domain = text.partition("@")
+    return len(local.encode()) <= 64 and len(domain.encode()) <= 255
+
+
+ATEXTS = LETTERS + DIGITS + "!#$%&'*+-/=?^_`{|}~"
+QTEXTS = "".join(chr(point) for point in range(32, 127) if chr(point) not in '"\\')
+# What may stand at one place of an address and not at another, and what other standards have there.
+MAIL_PLACES = [["", "@b"], ["a", "@b"], ["", "a@b"], ["a.", "@b"], ["a.", ".b@c"], ['"', '"@b'], ['"a', '"@b'],
+               ['"\\', '"@b'], ['"a"', "@b"], ["", '"a"@b'], ["a@", ""], ["a@", "b"], ["a@b", ""], ["a@b.", ""],
+               ["a@b.", "c"], ["a@b-", "c"], ["a@[", "]"], ["a@[", "b:c]"], ["a@[b", ":c]"], ["a@[b:", "]"],
+               ["a@[b:c", "]"], ["a@[IPv6", ":::1]"], ["a@[IPv6:", "]"], ["a@[IPv6:1::", "]"], ["a@[IPv6:::1", "]"],
+               ["a@[1.2.3.", "]"], ["a@[1.2.3.4", "]"], ["a@[b:c]", ""], ['"a"@[1.2.3.4]', ""], ["a@[", "1.2.3.4]"]]
+MAIL_CONSTRUCTS = ['"a"', "\\a", '\\"', "\\\\", "\\ ", "\\\t", "(c)", "()", " ", "\t", "\r\n ", "%41", ".a", "a.", "..",
+                   "@", "@c", "c@", "<a>", "a:", "@c:", "IPv6", "IPv6:", "ipV6", "IPv4", "IPv4:", "x", "X-y", "[a]",
+                   "\\[",
+                   "\\]", "::", ":1", "1", "00", "001", "256", "0.0.0.0", "1.2.3.4", "1:2", "/64", "%1", "é", "\u0301",
+                   "\u200d", "\uff20", "\u3002", "xn--", "a--b", "-", "--", "_", "<", ">", ",", ";", "=?utf-8?q?a?=",
+                   "\u0000", "\u007f", "\u0080", '"', "mailto:", "a" * 63, "+tag", "!", "|", "`", "{}"]
+
+
 def mail_rows():
     """The rows of mail addresses."""
     yield "local parts and domains of each kind, each with each other"
@@ -504,6 +716,30 @@ def mail_rows():
     yield texts("email", [f"a@{domain}" for domain in domains], is_mailbox)
     yield texts("email", [f"a@[b:{'c' * rest}]" for rest in (1, 250, 251, 252, 253, 508, 1000)], is_mailbox)
     yield texts("email", around("a@b") + around('"a"@[1.2.3.4]'), is_mailbox)
+    yield "each construct at each place: what RFC 5322, RFC 6068 and others have there makes no address"
+    constructed = with_each(MAIL_CONSTRUCTS, MAIL_PLACES)
+    yield texts("email", constructed, is_mailbox)
+    yield texts("idn-email", [text for text in constructed if text.rpartition("@")[2].isascii()], is_idn_mailbox)
+    padded = [f"a@[{sign}{inside}{sign}]" for inside in ("1.2.3.4", "b:c", "IPv6:::1")
+              for sign in (" ", "\t", "[", "\\")]
+    yield texts("email", padded, never)
+    yield texts("idn-email", padded, never)
+    yield from wide_character_rows()
+    yield "what other programs pass over, put around a text or take for a character of it"
+    for of, rule in (("email", is_mailbox), ("idn-email", is_any_mailbox)):
+        yield decorated_row(of, ("a.b+c@d-e.f", '"a b"@c.d', "a@[IPv6:1::2]", "a@[1.2.3.4]", "a@[b-c:d]"), rule)
+    yield decorated_row("idn-email", ("\u00e9@b\u00fc.c",), is_any_mailbox)
+    for of, rule in (("email", is_mailbox), ("idn-email", is_idn_mailbox)):
+        yield changed_row(of, ("a.b@c-d.e", '"a\\b c"@d', "a@[1.20.255.4]", "a@[IPv6:1::2]", "a@[IPv6:::ffff:1.2.3.4]",
+                               "a@[b-c:d]", "a@[IPv6:1:2:3:4:5:6:7:8]"), rule)
+    yield counts("idn-email", "a", 1, 64, 1001, [["", "@b"], ["", "@\u00e9"]])
+    yield counts("idn-email", "a.", 0, 31, 501, [["", "a@b"]])
+    yield counts("idn-email", "a", 1, 63, 1001, [["a@", ""], ["a@b.", ".\u00e9"]])
+    short_ones = [address for address in addresses_of_six() if len(address) < 24]
+    yield texts("idn-email", [f"a@[IPv6:{address}]" for address in short_ones], is_idn_mailbox)
+    wholes = ("a@b", '"a"@b', "\u00e9@b", '"\u00e9"@[1.2.3.4]', "a@[b:c]")
+    yield texts("idn-email", ["", "@", *[other for text in wholes for other in [text, *around(text)]]],
+                lambda text: text.rpartition("@")[2].isascii() and is_idn_mailbox(text))
     yield from idn_mail_rows(both)
 
 
@@ -655,6 +891,63 @@ def bracket_rows():
         yield texts(of, [place.format(f"[{inside}]") for inside in in_forms(forms, lasts)], URI_RULES[of])
 
 
+# What may stand at one place of a URI and not at another: percent-encodings, delimiters, and characters past ASCII.
+URI_CONSTRUCTS = ["%41", "%3a", "%2F", "%00", "%25", "%C3%A9", "%80", "%", "%4", "%g1", "%u0041", "é", "\u0661",
+                  "\uff11", "\uff0f", "\u200d", "\u202e", "\ue000", "\U0010fffd", "\ufeff", ":", "::", "//", "@",
+                  "a@", "[", "]",
+                  "[::1]", "?", "#", "..", "\\", "{a}", "+", "-", ".", "1", "v1", "g", " ", "0x1", "*", "_", "~"]
+CONSTRUCT_PLACES = [["", ":b"], ["a", ":b"], ["a", "://b"], ["a:", "/b"], ["a:", "//b"], ["a://", "b"], ["a://b", "@c"],
+                    ["a://@", ""], ["a://b", ""], ["a://b:", ""], ["a://b:8", ""], ["a://b:8", "/c"], ["a://[", "]"],
+                    ["a://[::", "]"], ["a://[::1", "]"], ["a://[1:2:3:4:5:6:7:8", "]"], ["a://[::1.2.3.4", "]"],
+                    ["a://[v", ".a]"], ["a://[v1", ".a]"], ["a://[v1", "a]"], ["a://[v1.", "]"], ["a://[v1.a", "]"],
+                    ["a://[v1.", "a]:8"], ["a://[::1]", ""], ["a://[::1]:", ""], ["a://b@[v1.c", "]/d"],
+                    ["a://1.2.3.", ""], ["a:/", "b"], ["a:b/", "/c"], ["a:?", "b"], ["a:?b", "#c"], ["a:#", "b"]]
+
+
+def uri_construct_rows():
+    """Each construct at each place of URIs and of references."""
+    yield ("each construct at each place: percent-encodings, and in IRIs characters past ASCII, stand in userinfos, "
+           "names, paths, queries and fragments alone (RFC 3986, appendix A; RFC 3987, section 2.2)")
+    relative = [[before.removeprefix("a:"), behind] for before, behind in CONSTRUCT_PLACES if before.startswith("a:")]
+    of_uris, of_references = with_each(URI_CONSTRUCTS, CONSTRUCT_PLACES), with_each(URI_CONSTRUCTS, relative)
+    for of, rule in URI_RULES.items():
+        yield texts(of, of_references if of.endswith("reference") else of_uris, rule)
+    yield "a scheme's own rules are not asked, nor a host name's, nor a normal form or a direction"
+    schemes = ("http", "https", "ftp", "file", "ws", "urn", "mailto", "tel", "data", "news", "ldap", "javascript",
+               "about", "geo", "tag", "uuid", "localhost", "HTTP", "x" * 40)
+    behinds = ("", "a", "//", "///", "/", "//a", "/a", "a@b", "//a@b", "a:b", "+1-2", "abc", ",", "//:80", "//-a-",
+               "//a_b", "//.", "//a..b", "//a.", "//1.2.3", "//256.1.1.1", "//xn--a", "///C:/a", "//a:99999", "?a", "#a",
+               "*", "//%00")
+    yield texts("uri", [f"{scheme}:{behind}" for scheme in schemes for behind in behinds], URI_RULES["uri"])
+    for letters in ("a1\u05d0\u0660", "e\u0301\u00c9\u0958", "a\u200d\u0627\uff41", "\u4e00\u0430-\u30fb"):
+        made_words = words(letters, (1, 2, 3))
+        yield texts("iri", in_forms(("a://{}", "a://{}@b", "a://b/{}"), made_words), URI_RULES["iri"])
+        yield texts("iri-reference", in_forms(("{}", "?{}", "//b/?{}", "#{}"), made_words), URI_RULES["iri-reference"])
+    yield "what other programs pass over, put around a text or take for a character of it"
+    for of, rule in URI_RULES.items():
+        yield decorated_row(of, ("a+b://c:d@e-f:8/g/%41?h#i", "ab:c", "//[::1]:8/", "b/c?d"), rule)
+        wholes = ("a1://b:c@d:80/e/?f#g", "a:b/%C3c", "a://[v1f.a:b]:8/", "a://[1::2:3.4.5.6]?", "a:/b?#")
+        yield changed_row(of, wholes, rule)
+        if of.endswith("reference"):
+            yield changed_row(of, ("//a@b:1/c", "a/b:c?d#e", "/a//b", "?a", "#a", "./a:b"), rule)
+        for before, behind in (("a:", ""), ("a://", ""), ("a://", "@b"), ("a:?", ""), ("a:#", ""), ("a:b/", "/c"),
+                               ("a://b:", "")):
+            tail = before.removeprefix("a:") if of.endswith("reference") else before
+            yield counts(of, "1", 0, 1000, 1001, [[tail, behind]])
+    yield "all characters of two planes, and some of each other one, in each part of an IRI"
+    for of, before, behind in (("iri", "a://", ""), ("iri", "a://", "@b"), ("iri", "a:", ""), ("iri", "a:?", ""),
+                               ("iri", "a:#", ""), ("iri-reference", "", "")):
+        yield sums(of, [[before, behind]], lambda point, of=of, before=before, behind=behind:
+                   URI_RULES[of](before + chr(point) + behind), 0x4000, 0x20000)
+    yield "what stands around a text of each kind"
+    wholes = ("a:", "a:b", "a:b:c", "a://b", "a://[::1]", "a://b:8", "a://b/c", "a:/b", "a:b?", "a:b?c", "a:b#",
+              "a:b?c#d",
+              "", "b", "b/c:d", "./b:c", "/b", "//b", "//[::1]", "//b:8", "?b", "#b", "a://\u00e9/\u00e9", "\u00e9",
+              "?\u00e9")
+    for of, rule in URI_RULES.items():
+        yield texts(of, [other for text in wholes for other in [text, *around(text)]], rule)
+
+
 def uri_rows():
     """The rows of URIs, IRIs, their references, templates and pointers."""
     yield ("URIs, IRIs and their references: empty parts, userinfos with colons, ports, and what follows "
@@ -668,6 +961,7 @@ def uri_rows():
     yield from uri_character_rows()
     yield from uri_length_rows()
     yield from bracket_rows()
+    yield from uri_construct_rows()
     yield from template_rows()
     yield from pointer_rows()
 
@@ -707,6 +1001,39 @@ def template_rows():
     for (before, behind), tried in itertools.product(places, (ASCII, wide)):
         accepted = accepted_between(is_template, tried, before, behind)
         yield characters("uri-template", accepted, [[before, behind]], tried)
+    yield "all characters of two planes in a literal, and between braces"
+    for before, behind in (("", ""), ("{a", "}")):
+        yield sums("uri-template", [[before, behind]], lambda point, before=before, behind=behind:
+                   is_template(before + chr(point) + behind), 0x4000, 0x20000)
+    yield "what other programs pass over, put around a text or take for a character of it"
+    yield decorated_row("uri-template", ("a/{b}", "{+c,d.e*}", "{?f:3}%41"), is_template)
+    yield changed_row("uri-template", ("{a}", "a{+b.c*,d:10}e", "{?%41_1,b}%4a", "{a}{b}", "{|a:9999}"), is_template)
+    expressions = [f"{{{one}a}}{{{other}b*}}" for one, other in itertools.product(["", *"+#./;?&=,!@|"], repeat=2)]
+    yield texts("uri-template", expressions, is_template)
+    yield counts("uri-template", "a.", 0, 500, 501, [["{", "b}"], ["{?b,", "c:10}"]])
+    yield counts("uri-template", "a,", 0, 500, 501, [["{", "b}"], ["{&", "b*}"]])
+    yield counts("uri-template", "%4a", 0, 330, 331, [["", ""], ["{a", "}"]])
+    yield "what stands around a template"
+    wholes = ("a", "{a}", "a{b}", "{a}b", "%41", "", "'")
+    yield texts("uri-template", [other for text in wholes for other in [text, *around(text)]], is_template)
+    yield "templates: each operator before two variables of each kind, three in a row, and parts of each kind in a row"
+    variables = ["a", "_9", "a:3", "%c3%A9", "a.b:9999", "a*", "a:0"]
+    operators = ["", *"+#./;?&=,!@|", "$", "++"]
+    yield texts("uri-template", [f"{{{operator}{one},{other}}}" for operator in operators
+                                 for one, other in itertools.product(variables, repeat=2)], is_template)
+    lists = [",".join(some) for some in itertools.product(variables, repeat=3)]
+    yield texts("uri-template", [f"{{{some}}}" for some in lists], is_template)
+    parts = ["{a}", "{+b*}", "{?c,d:1}", "x", "%41", "%4", "'", "é", "}", "/", "{"]
+    yield texts("uri-template", words(parts, (1, 2, 3)), is_template)
+    yield "each construct at each place of an expression, beside it and in a literal"
+    constructs = ["%41", "%c3%a9", "%4", "%", "{b}", "{", "}", "{}", "a", ".", "..", ".a", "a.", ":1", ":", ":10000",
+                  "*", "**", "*:1", ":1*", ":1:1", ",", "b,c", ",,", "+b", "+", "\u00e9", "\u0661", "\uff11",
+                  "\u200d", "-", "_", "~", " ", "\"", "'", "<", "|", "^", "\\", "`", "$a", "a=1", "a[0]", "a/b",
+                  "a|b", "0", "\u0080", "\u007f"]
+    places = [["{", "}"], ["{a", "}"], ["{a.", "}"], ["{a,", "}"], ["{", ",a}"], ["{a:", "}"], ["{a:1", "}"],
+              ["{a:123", "}"], ["{a*", "}"], ["{?", "}"], ["{?a", "}"], ["{?a,", ",b}"], ["{|", "b}"], ["{%41", "}"],
+              ["", "{a}"], ["{a}", ""], ["a", "b"], ["", ""], ["{a", ""], ["", "a}"]]
+    yield texts("uri-template", with_each(constructs, places), is_template)
     yield counts("uri-template", "9", 1, 4, 1001, [["{a:", "}"]])
     yield counts("uri-template", "9", 0, 1000, 1001, [["{a", "}"], ["{a,b", "*}"], ["", "{a}"]])
 
@@ -733,11 +1060,35 @@ def pointer_rows():
     yield "JSON pointers (RFC 6901, section 3) and relative ones"
     all_pointers = list(pointers())
     yield texts("json-pointer", all_pointers, whole(f"(?s:{POINTER})"))
+    yield sums("json-pointer", [["/", ""]], lambda point: point != 0x7E, 0x8000, 0x20000)
+    yield sums("json-pointer", [["", "/"]], lambda point: point == 0x2F, 0x8000, 0x20000)
+    yield "what other programs pass over, put around a text or take for a character of it"
+    yield decorated_row("json-pointer", ("/a~0b/~1", "/0/1"), whole(f"(?s:{POINTER})"))
+    yield changed_row("json-pointer", ("", "/", "/a/b~0~1", "/~0"), whole(f"(?s:{POINTER})"))
+    yield changed_row("relative-json-pointer", ("0", "10", "0#", "12#", "3/", "4/a~1/b"),
+                      whole(rf"(?s:(?:0|[1-9][0-9]*)(?:#|{POINTER}))"))
+    yield counts("relative-json-pointer", "a", 0, 1000, 1001, [["0/", ""], ["12/a/", "/"], ["1/~0", "~1"]])
+    yield counts("relative-json-pointer", "/a", 0, 500, 501, [["0", ""], ["12", "/"]])
+    yield texts("json-pointer", ["/18446744073709551616", "/00000000000000000000", "/a/99999999999999999999/b", "/-0"],
+                whole(f"(?s:{POINTER})"))
+    numbers = ["0/01", "1/00", "2/-1", "3/1e5", "18446744073709551616/0", "99999999999999999999#"]
+    yield texts("relative-json-pointer", numbers, whole(rf"(?s:(?:0|[1-9][0-9]*)(?:#|{POINTER}))"))
+    yield decorated_row("relative-json-pointer", ("0#", "12/a~1b", "3"),
+                        whole(rf"(?s:(?:0|[1-9][0-9]*)(?:#|{POINTER}))"))
+    tokens = [f"/{token}" for token in ("-", "01", "1e0", "-1", "+1", "a b", '"', "\\", "{", "%", "%25", "%zz",
+                                        "\u0301", "\u0080", "\ue000", "\ufffe", "\u202e", "\u007f", "\u0000")]
+    pairs = ["".join(some) for some in itertools.product(tokens, repeat=2)]
+    yield texts("json-pointer", tokens + pairs, whole(f"(?s:{POINTER})"))
+    wholes = [other for text in ("", "/", "/a", "/a/~0", "/~1") for other in [text, *around(text)]]
+    yield texts("json-pointer", wholes, whole(f"(?s:{POINTER})"))
     heads = ["0", "1", "9", "10", "19", "90", "00", "01", "-1", "+1", "", " 1", "1a", "٣", "1" * 20, "9" * 21,
              "1" * 300, "0" * 300]
     bodies = ["", "#", "/", "/a", "/~0", "/~2", "##", "#/", "/#", "a", "-1", "+1", "+1/a", "\n", BYTE_ORDER_MARK]
     relative = [head + body for head in heads for body in bodies] + [f"1{text}" for text in all_pointers[::9]]
-    yield texts("relative-json-pointer", relative, whole(rf"(?s:(?:0|[1-9][0-9]*)(?:#|{POINTER}))"))
+    is_relative = whole(rf"(?s:(?:0|[1-9][0-9]*)(?:#|{POINTER}))")
+    yield texts("relative-json-pointer", relative, is_relative)
+    wholes = [other for text in ("0", "10", "0#", "1#", "0/", "1/a/~0") for other in [text, *around(text)]]
+    yield texts("relative-json-pointer", wholes, is_relative)
     yield counts("json-pointer", "a", 0, 1000, 1001, [["/", ""], ["/~0", "~1"], ["/b/", ""]])
     yield counts("relative-json-pointer", "9", 1, 1000, 1001, [["", ""], ["", "#"], ["", "/a"]])
 
@@ -809,8 +1160,27 @@ def single_bytes():
             yield bytes([*[0] * place, value, *[0] * (length - place - 1)])
 
 
+# Names, and the variants of the enums that they name.
+ENCODING_NAMES = {"base64": "Base64", "base64url": "Base64Url", "base32": "Base32", "base32hex": "Base32Hex",
+                  "base16": "Base16"}
+MEDIA_TYPE_NAMES = {"application/json": "Json"}
+
+
+def names_near(right):
+    """Right names, and those with a letter in the other case, left out, doubled, or with another beside it."""
+    for name in right:
+        yield from (name, name.upper(), name.title(), name.capitalize(), f" {name}", f"{name} ", f"{name}\n")
+        yield f"{name};"
+        for at in range(len(name)):
+            changes = (name[at].upper(), "", name[at] * 2, "_", "-", f"-{name[at]}")
+            yield from (name[:at] + changed + name[at + 1:] for changed in changes)
+
+
 def coding_rows():
     """The rows of encodings."""
+    yield "names with one letter in the other case, left out, doubled or changed"
+    for of, right in (("encodings", ENCODING_NAMES), ("media types", MEDIA_TYPE_NAMES)):
+        yield names(of, [[name, right.get(name)] for name in dict.fromkeys(names_near(right))])
     yield "texts of each length, with each padding and each rest of bits: RFC 4648, sections 3.2, 3.5 and 4 to 8"
     for of in ENCODERS:
         rows = codes_of(of)
@@ -822,6 +1192,21 @@ def coding_rows():
         forms = [f"{{}}{letter * (block - 1)}", f"{letter * (block - 1)}{{}}", f"{letter}{{}}{'=' * (block - 2)}"]
         blocks = in_forms(forms, ASCII)
         yield decoded(of, [[text, by_trial(of, text)] for text in sorted(set(blocks))])
+    yield ("what is encoded may be any character of UTF-8: noncharacters, controls and private ones too, and no half "
+           "of a pair")
+    points = (0, 1, 9, 0x1F, 0x7F, 0x80, 0x85, 0x9F, 0x7FF, 0x800, 0x2028, 0xD7FF, 0xE000, 0xF8FF, 0xFDD0, 0xFDEF,
+              0xFEFF, 0xFFFD, 0xFFFE, 0xFFFF, 0x10000, 0x1FFFE, 0x1FFFF, 0xE0001, 0xF0000, 0x10FFFE, 0x10FFFF)
+    samples_of = [chr(point).encode() for point in points] + [f"a{chr(point)}b".encode() for point in points]
+    spoilt = ("eda080", "edbfbf", "eda080edb080", "f4908080", "c080", "c1bf", "e08080", "e09fbf", "f0808080",
+              "f08fbfbf", "f5808080", "fe", "ff", "efbf", "80")
+    samples_of += map(bytes.fromhex, spoilt)
+    for of, (encode, _) in ENCODERS.items():
+        yield decoded(of, [[encode(sample).decode(), sample.hex()] for sample in samples_of])
+    yield "what other programs pass over, put around a text or take for a character of it"
+    for of, (encode, _) in ENCODERS.items():
+        wholes = [encode(sample).decode() for sample in (b"foobar", b"foob", b"fooba")]
+        tried = dict.fromkeys(other for text in wholes for other in [text, *decorated(text)])
+        yield decoded(of, [[text, by_trial(of, text)] for text in tried])
     yield "one byte that is not zero"
     for of, (encode, _) in ENCODERS.items():
         yield decoded(of, [[encode(sample).decode(), sample.hex()] for sample in single_bytes()])
@@ -863,6 +1248,19 @@ def pattern_rows():
     """The rows of literal patterns."""
     yield "literal patterns with line feeds, with both letter cases, and with a byte order mark"
     yield analyses(ANALYSES)
+    yield "characters past ASCII make no literal pattern, alone or behind a backslash, and no length is too great"
+    forms = ("^{}", "^\\{}", "^a{}", "^{}$", "^a\\{}$", "^({}|a)$", "^(a|\\{})$", "^(a{}|b)$")
+    wide = "\u0080\u00a0\u00aa\u00b5\u00e9\u00ff\u0430\u4e00\uff41\U0001d41a"
+    yield analyses([[pattern, "none"] for pattern in in_forms(forms, wide)])
+    long_ones = []
+    for size in (31, 32, 33, 63, 64, 65, 127, 128, 129, 255, 256, 257, 1000, 1024, 5000):
+        long_ones += [["^" + "a" * size, "prefix " + "a" * size], ["^" + "\\." * size + "$", "exact " + "." * size],
+                      ["^" + "a" * size + "+", "none"]]
+    for size in (2, 3, 8, 9, 10, 16, 17, 32, 33, 64, 65, 100, 101, 128, 129, 256, 257, 1000):
+        chosen = [f"b{number:03}" for number in range(size)]
+        long_ones += [["^(" + "|".join(reversed(chosen)) + ")$", "alternation " + "\u00b7".join(chosen)],
+                      ["^(" + "|".join(chosen) + "|)$", "none"]]
+    yield analyses(long_ones)
     yield from literal_rows()
     yield "`^\\S*$` with a member of white space, or a character beside one, at each place of a block"
     for length in (0, 1, 31, 32, 33, 64):
@@ -912,6 +1310,80 @@ def payload_rows():
     yield payloads([[*in_forms(forms, character), None] for character in "\u0000 !./:@[`{~\u007f"])
 
 
+def repeated_rows():
+    """Labels of one character so many times over, which have few characters in encoded form and many octets."""
+    yield "a limit counts the characters of a label in encoded form, not those of what it encodes, nor its octets"
+    forms = [character * count for character in "\u00fc\u0915\u4e00\U00020000" for count in range(1, 64)]
+    forms += [f"{letters}{character * count}" for letters in ("a", "abc-d") for character in "\u00fc\U00020000"
+              for count in range(15, 60, 4)]
+    labels = [f"xn--{form.encode('punycode').decode()}" for form in forms]
+    for of in ("hostname", IDN):
+        yield texts(of, labels, lambda label: len(label) <= 63)
+    yield texts(IDN, forms, is_idn_host_name)
+    yield texts("u-label", forms, is_u_label)
+    yield texts("idn-email", [f"a@{form}" for form in forms],
+                lambda text: is_u_label(text[2:]) and len(text[2:].encode()) <= 255)
+
+
+# A letter of each of some scripts that run from left to right.
+OF_SCRIPTS = "a\u0430\u03b1\u4e00\u3042\u30a2\uac00\u0e01\u0915\u10d0\u0561\u13a0\u1820\U00010400\U00016f00"
+OF_LEFT_SCRIPTS = "\u05d0\u0628\u0710\u07ca"
+
+
+def script_rows():
+    """Labels of letters of two scripts."""
+    yield ("a label may have marks and hyphens in a row, digits alone, digits of several scripts, or one character: no "
+           "rule of RFC 5890 to 5893 is against it")
+    forms = [letter + mark * count for letter, mark in (("\u0e01", "\u0e48"), ("\u0915", "\u094d"), ("q", "\u0301"),
+                                                        ("\u05d0", "\u05b0")) for count in range(1, 45)]
+    forms += words("1\u0967\u0e51-", (1, 2, 3)) + words("-\u4e00a\u0e48", (4,))
+    forms += ["a---\u00fc", "\u00fc---a", "\u00fc-1-2"]
+    yield idn_texts(in_forms(("{}", "a.{}"), forms))
+    yield texts("u-label", forms, is_u_label)
+    labels = {to_a_label(form): form for form in forms if not form.isascii()}
+    yield texts("hostname", labels, lambda label: whole(LABEL)(label) and is_hostname_form(labels[label]))
+    yield "a label may have letters of several scripts: RFC 5890 to 5893 leave that to registries"
+    forms = [*words(OF_SCRIPTS, (2,)), *words(OF_LEFT_SCRIPTS, (2,))]
+    forms += [*words("a1\u0430", (3,)), *words("a\u03b1\u0430", (3,))]
+    forms = [form for form in forms if not form.isascii()]
+    labels = {to_a_label(form): form for form in forms}
+    yield texts("hostname", labels, lambda label: is_hostname_form(labels[label]))
+    yield idn_texts(in_forms(("{}", "a.{}"), [*forms, *labels]))
+    yield texts("u-label", forms, is_u_label)
+    yield texts("idn-email", [f"a@{form}" for form in forms], is_domain_of_labels)
+
+
+def is_name_of_plain_labels(text):
+    """A host name whose labels have no hyphens in third and fourth place."""
+    return whole(NAME)(text) and all(label[2:4] != "--" for label in text.split("."))
+
+
+def decorated_names():
+    """Names and labels with what stands around them and in them."""
+    yield "what other programs pass over, put around a text or take for a character of it"
+    yield changed_row("hostname", ("a1.b-c", "1", "a-b--c.1-d"), is_name_of_plain_labels)
+    yield changed_row(IDN, ("a1.b-c", "b\u00fc.c", "xn--bcher-kva", "\u05d0.b"), is_idn_host_name)
+    yield changed_row("u-label", ("b\u00fc", "\u4e2d-\u56fd", "l\u00b7l\u00fc"), is_u_label)
+    yield decorated_row("hostname", ("a.b-c.de", "1a"), is_name_of_plain_labels)
+    names_past_ascii = ("a.b-c.de", "b\u00fccher.example", "\u05d0\u05d1.\u05d2", "\u4e2d\u56fd", "\u0e01\u0e48")
+    yield decorated_row(IDN, names_past_ascii, is_idn_host_name)
+    wholes = ("b\u00fccher", "\u05d0\u05d1", "\u4e2d\u56fd", "l\u00b7l", "\u0915\u094d\u200d\u0937", "\u0784\u07a6")
+    yield decorated_row("u-label", wholes, is_u_label)
+
+
+def basic_rows():
+    """Each character of ASCII among those that a payload has as they are."""
+    yield "each character of ASCII before the last hyphen of a payload, alone, first and last (RFC 3492, section 3.1)"
+    forms = ("{}", "{}ü", "{}a", "a{}", "a{}ü", "{}a\u4e00", "ü{}", "{0}{0}\U0010ffff", "{}ü{}ä")
+    decoded_texts = in_forms(forms[:8], ASCII) + [f"{sign}ü{sign}ä" for sign in ASCII]
+    yield payloads([[text.encode("punycode").decode(), text] for text in dict.fromkeys(decoded_texts)])
+    yield "what is past the basic plane, noncharacters and what is for private use"
+    far = [0xFDD0, 0xFFFD, 0xFFFE, 0xFFFF, 0x10000, 0x1FFFE, 0x20000, 0xE0001, 0xEFFFF, 0xF0000, 0xFFFFF, 0x100000,
+           0x10FFFF, 0x80, 0x9F, 0xAD, 0x378, 0xD7FF, 0xE000, 0xF8FF]
+    yield payloads([[text.encode("punycode").decode(), text] for point in far
+                    for text in (chr(point), f"a{chr(point)}", f"{chr(point)}-ü", chr(point) * 3)])
+
+
 def digit_rows():
     """Digits of both Arabic sets in a label."""
     yield "digits of both Arabic sets, in either order and beside one another"
@@ -936,7 +1408,12 @@ def label_rows():
     names = in_forms(("{}", "a.{}", "{}.b"), encoded_labels())
     yield texts("hostname", names, lambda text: all(len(label) <= 63 for label in text.split(".")))
     yield from payload_rows()
+    yield from basic_rows()
+    yield from repeated_rows()
+    yield from script_rows()
+    yield from decorated_names()
     yield from digit_rows()
+    yield from derived_rows()
     yield from code_point_rows()
     yield from idn_rows()
 
@@ -1027,6 +1504,13 @@ def code_point_rows():
            "admitted in a label, and of the first 131,072 which first in one")
     yield sums("label", [["a", "a"]], is_admitted, 0x1000)
     yield sums("label", [["", "a"]], is_first, 0x1000, 0x20000)
+    yield ("a character with a rule of its own stands beside what is in a block or a list, and beside nothing past it, "
+           "where RFC 5892 has a script or a class")
+    past = {("a\u30fb", ""): (0xA000, 0x40000), ("a\u0375", ""): (0x400, 0x20000), ("a", "\u05f3"): (0x600, 0x20000),
+            ("a", "\u05f4"): (0x600, 0x20000), ("a", "\u200c"): (0x11D98, 0x20000), ("a", "\u200d"): (0x11D98, 0x20000),
+            ("l\u00b7", ""): (0x80, 0x20000), ("", "\u00b7l"): (0x80, 0x20000)}
+    for (before, behind), (low, high) in past.items():
+        yield {"ask": "sums", "of": "label", "places": [[before, behind]], "rows": [[low, high, 0, 0]]}, 1
     yield "and which are characters of a host name, where the labels of both formats are read alike"
     for of, end in (("hostname of RFC 1034", 0x110000), ("hostname", 0x10000)):
         yield sums(of, [["a", "a"]], is_of_host_names, 0x10000, end)
@@ -1128,6 +1612,29 @@ def derived_property(point):
     if compatible(compatible(character).casefold()) != character or is_noncharacter or point in DISALLOWED_POINTS:
         return "DISALLOWED"
     return "PVALID" if category in LETTER_DIGITS else "DISALLOWED"
+
+
+def derived_rows():
+    """The derived property of each character that Unicode 14 or a later edition here has, but within long ranges."""
+    yield ("the derived property of all characters of another edition of Unicode (RFC 5892, section 3): of a range of "
+           "one property its first and last 64")
+    points = [point for point in range(0x110000) if not 0xD800 <= point <= 0xDFFF]
+    ranges = []
+    for (value, _), some in itertools.groupby(points, key=lambda point: (derived_property(point), 0xD800 < point)):
+        some = list(some)
+        if value != "UNASSIGNED":
+            parts = [some] if len(some) <= 128 else [some[:64], some[-64:]]
+            ranges += [[chr(part[0]) + chr(part[-1]), value] for part in parts]
+    for at in range(0, len(ranges), 500):
+        asked = ranges[at:at + 500]
+        row = {"ask": "properties", "of": "RFC 5892", "rows": asked}
+        yield row, sum(ord(ends[1]) - ord(ends[0]) + 1 for ends, _ in asked)
+    far = [[chr(low) + chr(high), "UNASSIGNED"] for low, high in (
+        (0x40000, 0x40040), (0x4FFC0, 0x4FFFD), (0xD0000, 0xD0040), (0xDFFC0, 0xDFFFD), (0xE0000, 0xE0000),
+        (0xE0002, 0xE001F), (0xE0080, 0xE00FF), (0xE01F0, 0xE0FFF), (0xEFFC0, 0xEFFFD), (0x2065, 0x2065),
+        (0xFFF0, 0xFFF8), (0x378, 0x379), (0x530, 0x530), (0x590, 0x590))]
+    yield ({"ask": "properties", "of": "RFC 5892", "rows": far},
+           sum(ord(ends[1]) - ord(ends[0]) + 1 for ends, _ in far))
 
 
 def is_permitted(point):
@@ -1352,13 +1859,17 @@ CONTEXTS = ("l\u00b7a", "\u03b1\u0375a", "\u05d0\u05f3\u05f4b\u0628", "\u30fb\u3
             "\u094d\u200d\u0915\u200c", "\u0628\u200c\u0627\u064b", "\u1820\u200ca\u18a9")
 # The joiner among letters that join: no joining type lets it stand (appendix A.2).
 JOINERS = ("\u0628\u200d\u0627\u064b", "\u1820\u200da\u18a9", "\u0628\u200d\u200c\u0627")
+# With marks between a character and the one that lets it stand, and where a block and a script are not the same.
+APART = ("\u0915\u094d\u0951\u200d", "\u0915\u094d\u0951\u200c", "\u0915\u094d\u200d\u200c", "\u05d0\u05b0\u0300\u05f3",
+         "\u05d0\u0300\u05f4\u05f3", "\u03b1\u0375\u0301\u1f00", "\u0375\u03e3\u2c81\u03b1", "\u30fb\u30fc\u3099a",
+         "\u30fb\u309d\u3105\u3005", "\u0628\u200c\u0300\u200d", "\u0e01\u0e3a\u200d\u0e48", "\u0f40\u0f84\u200c\u0f71")
 
 
 def context_rows_of_idn():
     """Characters that have contextual rules."""
     yield ("contextual rules: each character that has one, among others of each kind, at each place "
            "(RFC 5892, appendix A)")
-    for rule in CONTEXTS + JOINERS:
+    for rule in CONTEXTS + JOINERS + APART:
         yield idn_texts(words(rule, (1, 2, 3, 4)))
     digits = [chr(at) for at in (0x65F, 0x660, 0x661, 0x668, 0x669, 0x66A, 0x6EF, 0x6F0, 0x6F1, 0x6F8, 0x6F9, 0x6FA)]
     yield idn_texts([f"\u0628{one}{other}" for one in digits for other in digits])
@@ -1515,7 +2026,7 @@ def hostname_form_rows():
     heads = ("a", "aa", "\u00fc", "a\u00fc", "\u00fc\u00fc")
     forms += [f"{one}--{other}" for one in heads for other in ("a", "\u00fc")]
     forms += words("\u4e00a-\u0300\u0903", (1, 2, 3)) + ["\u4e00--\u4e00", "-\u00fc-", "--\u00fc", "\u00fc--"]
-    forms += [form for rule in CONTEXTS + JOINERS for form in words(rule, (1, 2, 3))]
+    forms += [form for rule in CONTEXTS + JOINERS + APART for form in words(rule, (1, 2, 3))]
     encoded_forms = {to_a_label(form): form for form in forms}
     is_label = whole(LABEL)
 
@@ -1557,7 +2068,7 @@ def u_label_rows():
     with_dots = [f"{one}{dot}\u00fc" for one in ("", "a", "\u00fc") for dot in DOTS]
     yield texts("u-label", [*forms, *map(to_a_label, forms), *with_dots], is_u_label)
     yield texts("u-label", words(OF_CLASSES, (1, 2, 3)), is_u_label)
-    yield texts("u-label", [form for rule in CONTEXTS + JOINERS for form in words(rule, (1, 2, 3))], is_u_label)
+    yield texts("u-label", [form for rule in CONTEXTS + JOINERS + APART for form in words(rule, (1, 2, 3))], is_u_label)
     yield texts("u-label", labels_about_63() + ["\u4e00" * count for count in range(1, 70)], is_u_label)
 
 
@@ -1743,13 +2254,20 @@ def is_of_value(value, category):
 
 
 def category_searches():
-    """Each value of General_Category with a character of each category, alone and in a class."""
-    values = [(names[0], point) for names, point in values_of(CATEGORIES)]
-    having = [(name, point) for name, point in values if len(name) == 2 and name != "LC" and point]
-    forms = (("^\\p{{{}}}$", True), ("^\\P{{{}}}$", False), ("^[\\p{{{}}}]$", True), ("^[^\\p{{{}}}]$", False))
+    """Each value of General_Category by each of its names: all characters that have it, and all that do not.
+
+    There is a character of each category. By its first name a value stands in classes too.
+    """
+    having = {name: point for (name, *_), point in values_of(CATEGORIES) if len(name) == 2 and name != "LC" and point}
     rows = []
-    for (value, _), (form, has) in itertools.product(values, forms):
-        rows += [[form.format(value), point, is_of_value(value, name) == has] for name, point in having]
+    for (value, *names), _ in values_of(CATEGORIES):
+        inside = "".join(point for name, point in having.items() if is_of_value(value, name))
+        outside = "".join(point for point in having.values() if point not in inside)
+        pairs = [(f"\\p{{{name}}}", f"\\P{{gc={name}}}") for name in (value, *names)]
+        pairs += [(f"[\\p{{{value}}}]", f"[^\\p{{{value}}}]"), (f"[^\\P{{{value}}}]", f"[\\P{{{value}}}]")]
+        for has, has_not in pairs:
+            rows += [[f"^{has}+$", inside, bool(inside)], [has, outside, False]]
+            rows += [[f"^{has_not}+$", outside, bool(outside)], [has_not, inside, False]]
     return searches(rows)
 
 
@@ -1770,12 +2288,50 @@ def binary_searches():
     return searches(rows)
 
 
+def latin_searches():
+    """Each value of General_Category, in the first characters of Unicode that have it and in those that have not."""
+    first = span(0, 0x17F)
+    rows = []
+    for (value, *_), _ in values_of(CATEGORIES):
+        inside = "".join(point for point in first if is_of_value(value, unicodedata.category(point)))
+        outside = "".join(point for point in first if point not in inside)
+        rows += [[f"^\\p{{{value}}}+$", inside, bool(inside)], [f"\\p{{{value}}}", outside, False]]
+    return searches(rows)
+
+
+def one_script_searches():
+    """Each script, in the first character of each: it has one of them."""
+    values = [(names[0], point) for names, point in values_of(SCRIPTS) if point]
+    points = "".join(point for _, point in values)
+    return searches([[f"^\\P{{sc={name}}}*\\p{{sc={name}}}\\P{{sc={name}}}*$", points, True] for name, _ in values])
+
+
+# Characters whose Script is Common or Inherited, and whose Script_Extensions name scripts (ScriptExtensions.txt).
+SHARED = {
+    "Zyyy/Common": {"\u0640": "Arab", "\u060c": "Thaa", "\u0964": "Deva", "\u0965": "Beng", "\u10fb": "Geor",
+                    "\u1735": "Tglg", "\u3001": "Hani", "\u3013": "Hang", "\u3030": "Kana",
+                    "\u30a0": "Hira", "\u30fb": "Yiii", "\u30fc": "Kana", "\uff70": "Hira", "\u00b7": "Latn"},
+    "Zinh/Inherited": {"\u0342": "Grek", "\u0345": "Grek", "\u0363": "Latn", "\u0485": "Cyrl", "\u064b": "Arab",
+                       "\U000102e0": "Copt", "\u0951": "Deva", "\u1cd0": "Deva", "\u1dc0": "Grek", "\u3099": "Hira",
+                       "\u302a": "Bopo"}}
+
+
+def shared_searches():
+    """Each character that scripts share, in none of them, and in Common or Inherited alone."""
+    rows = []
+    for (names, having), other in zip(SHARED.items(), [*SHARED][::-1]):
+        for character, script in having.items():
+            rows += [[f"^\\p{{sc={name}}}$", character, True] for name in names.split("/")]
+            rows += [[f"^\\p{{sc={name}}}$", character, False] for name in (script, "Zzzz", *other.split("/"))]
+    return searches(rows)
+
+
 # The binary properties that the standard makes itself (ECMA-262 2024, section 22.2.2.9.1, and UTS #18, section 1.2).
 MADE = {"Any": lambda character: True, "ASCII": str.isascii,
         "Assigned": lambda character: unicodedata.category(character) != "Cn"}
 # The ends of ASCII and of Unicode, and characters of each kind that are not assigned or are for private use.
 AT_ENDS = ("\0\u001f ~\u007f\u0080\u00ff\u0378\u0379\ud7ff\ue000\uf8ff\ufdd0\ufdef\ufffd\ufffe\uffff\U00010000"
-           "\U0001fffe\U000e0001\U000f0000\U000ffffe\U0010fffd\U0010fffe\U0010ffff")
+           "\U0001fffe\U000e0001\U000f0000\U000ffffe\U0010fffd\U0010fffe\U0010ffff" + LINE_ENDS + "\u0085\ufeff")
 
 
 def made_searches():
@@ -1786,16 +2342,31 @@ def made_searches():
                      for (name, has), (form, is_found), character in itertools.product(MADE.items(), forms, AT_ENDS)])
 
 
+# Names of properties that the standard does not have: the other ones of PropertyAliases.txt, WSpace among them, those
+# of UTS #18 and of other engines, and the properties of strings, which only the flag v has.
+OTHER_PROPERTIES = (
+    "WSpace Hyphen Grapheme_Link Gr_Link IDSU IDS_Unary_Operator Composition_Exclusion CE "
+    "Full_Composition_Exclusion Comp_Ex Expands_On_NFC XO_NFC Expands_On_NFD XO_NFD Expands_On_NFKC XO_NFKC "
+    "Expands_On_NFKD XO_NFKD ID_Compat_Math_Continue ID_Compat_Math_Start Modifier_Combining_Mark MCM "
+    "Prepended_Concatenation_Mark PCM Other_Alphabetic OAlpha Other_Default_Ignorable_Code_Point ODI "
+    "Other_Grapheme_Extend OGr_Ext Other_ID_Continue OIDC Other_ID_Start OIDS Other_Lowercase OLower Other_Math "
+    "OMath Other_Uppercase OUpper Age age Bidi_Class bc Block blk Bidi_Mirroring_Glyph bmg "
+    "Canonical_Combining_Class ccc Case_Folding cf Decomposition_Type dt East_Asian_Width ea General_Category gc "
+    "Grapheme_Cluster_Break GCB Hangul_Syllable_Type hst Indic_Syllabic_Category InSC Joining_Type jt "
+    "Joining_Group jg Line_Break lb Name na Numeric_Type nt Numeric_Value nv Script sc Script_Extensions scx "
+    "Sentence_Break SB Vertical_Orientation vo Word_Break WB NFC_Quick_Check NFC_QC alnum blank graph print word "
+    "xdigit alpha lower upper L& Latin Greek Xan Xwd Xsp Basic_Emoji Emoji_Keycap_Sequence RGI_Modifier_Sequence "
+    "RGI_Flag_Sequence RGI_Emoji RGI_Emoji_Modifier_Sequence RGI_Emoji_Flag_Sequence RGI_Emoji_Tag_Sequence "
+    "RGI_Emoji_ZWJ_Sequence").split()
+
+
 def binary_names_off(categories):
     """What is no name of a binary property: one letter off, with a value, or where a value stands."""
     names = [name for names in BINARIES for name in names.split("/")]
     off = sorted({spoilt for name in names for spoilt in one_letter_off(name)} - {*names, *categories})
     valued = [f"{name}{value}" for name in names for value in ("=", "=Y", "=Yes", "=True", f"={name}")]
     valued += [f"{prefix}{name}" for name in names for prefix in ("=", "gc=", "sc=", "Script=", "General_Category=")]
-    unknown = ["Changes_When_NFKC_Casefolded", "CWKCF", "Hyphen", "Grapheme_Link", "Gr_Link", "IDSU", "Other_Math",
-               "IDS_Unary_Operator", "OMath", "Composition_Exclusion", "CE", "Expands_On_NFC", "Bidi_Class", "Block",
-               "ID_Compat_Math_Start", "Modifier_Combining_Mark", "Prepended_Concatenation_Mark", "RGI_Emoji"]
-    return off + valued + unknown
+    return off + valued + ["Changes_When_NFKC_Casefolded", "CWKCF"] + OTHER_PROPERTIES
 
 
 def property_rows():
@@ -1809,8 +2380,15 @@ def property_rows():
         off = sorted({spoilt for name in known[table] for spoilt in one_letter_off(name)} - known[table])
         for prefix in prefixes:
             yield texts(PATTERNS, [f"\\p{{{prefix}{name}}}" for name in off], never)
-    yield "each value of General_Category with a character of each category: it has those of the categories that it is"
+    yield ("each value of General_Category by each of its names, with a character of each category: it has those of "
+           "the categories that it is, and no others")
     yield category_searches()
+    yield "each value in the characters up to U+017F that have it, and in the others"
+    yield latin_searches()
+    yield "each script has one of the first characters of all scripts"
+    yield one_script_searches()
+    yield "characters that several scripts share are of none of them (Script, and not Script_Extensions)"
+    yield shared_searches()
     exchanged = [*sorted(known[SCRIPTS]), *(f"sc={name}" for name in sorted(known[CATEGORIES]))]
     properties = ("Sc", "SC", "script", "s", "scr", "sc ", "gC", "Gc", "g", "general_category", "Category", "")
     others = [f"{prefix}={value}" for prefix in properties for value in ("Latn", "Latin", "Lu")]
@@ -2001,6 +2579,22 @@ def space_searches():
         yield searches(rows)
 
 
+def set_searches():
+    """Each set, alone and in a class, by one search of many characters that it has not, and of all that it has."""
+    points = [*range(0x3100), *range(0xFE00, 0x10010), *range(0x3100, 0x110000, 256), 0x10FFFE, 0x10FFFF]
+    others = "".join(chr(point) for point in points if not is_surrogate(point)
+                     and chr(point) not in WHITE_SPACE + LETTERS + DIGITS + "_")
+    rows = []
+    for letter, having in (("s", WHITE_SPACE), ("d", DIGITS), ("w", LETTERS + DIGITS + "_")):
+        upper = letter.upper()
+        for one in (f"\\{letter}", f"[\\{letter}]", f"[^\\{upper}]", f"[\\{letter}\\{letter}]"):
+            rows.append([f"^{one}+$", having, True])
+        rows += [[f"^[\\{letter}a]+$", having + "a", True], [f"\\{upper}|[\\{upper}]|[^\\{letter}]", having, False]]
+    none_of = "".join(f"(?=\\{upper})(?=[\\{upper}])(?=[^\\{upper.lower()}])" for upper in "SDW")
+    rows.append([f"^(?:{none_of}(?=.)(?=\\P{{Cs}})(?=\\p{{Any}})\\B[^])+\\B$", others, True])
+    return searches(rows)
+
+
 def spellings(character):
     """A character of ASCII as it may be written in a pattern."""
     number = ord(character)
@@ -2047,6 +2641,8 @@ def member_rows():
     yield searches(rows + [[f"a{end}^b", f"a{end}b", False] for end in LINE_ENDS])
     yield "each member of `\\s`, and the characters beside them"
     yield from space_searches()
+    yield "many characters are of no set: all up to U+30FF, from U+FE00 to U+1000F, and one of each 256 behind them"
+    yield set_searches()
 
 
 # What a lookbehind may look for, over a, b and c, which is a pattern of Python too.
@@ -2465,6 +3061,9 @@ def near_both_rows():
     told += [[f"c(?={body})", True] for body in GLANCES + FAR]
     for times, is_left_out in {"{0}": True, "{0,0}": True, "{1}": False, "{0,1}": False, "?": False, "*": False}.items():
         told += [[f"(?:(?<=ab)c){times}(?=ab)", is_left_out], [f"(?<=ab)(?:(?=ab)c){times}", is_left_out]]
+    both_ways = "a(?<=ba*)c(?=b*a)"
+    told += [[form.format(both_ways), False] for form in (
+        "^(?={})x", "^(?!{})x", "^(?={})(?=.*d)x", "^(?=.*d)(?!{})x", "^(?=.*d)x{}", "(?={})x", "(?<={})x")]
     yield tables(told)
 
 
@@ -2501,6 +3100,34 @@ def edge_rows():
 FIRST_BEHIND = ["(?<=^)", "(?<!^)", "(?<=a)", "(?<!a)", "(?<=ab)", "(?<!ab)", "(?<=^a)", "(?<!.)", "(?<=)", "(?<!)",
                 "(?<!b)"]
 LAST_AHEAD = ["(?=$)", "(?!$)", "(?=a)", "(?!a)", "(?=ab)", "(?!ab)", "(?=b$)", "(?!.)", "(?=)", "(?!)", "(?!b*$)"]
+
+
+# What reads nothing or one character, and stands beside the same.
+BESIDE_EDGES = ["", "^", "$", "\\b", "\\B", "a", "-", ".", "a?", "(?:^|-)", "(?=a)", "(?!a)", "(?<=a)", "(?<!a)",
+                "(?=-)", "(?<!-)"]
+
+
+def edge_pair_rows():
+    """Each of these behind each, in texts of a word character and another."""
+    yield "assertions and characters beside one another, in each text of `a` and `-`"
+    patterns = [one + other for one in BESIDE_EDGES for other in BESIDE_EDGES]
+    yield searches([[pattern, word, re.search(in_python(pattern), word) is not None]
+                    for pattern in dict.fromkeys(patterns) for word in words("a-", range(4))])
+
+
+# What is repeated, which may read nothing, and is a pattern of Python too.
+REPEATED = ["a", "[^a]", "(?:ab)", "(?:a|b)", "(?:a|ab)", "(?:a?)", "(?:a*b)", "(?:a|)", "(?:|b)", "(?:^a)", "(?:b$)",
+            "(?:a\\b)", "(?:(?=ab).)", "(?:(?<!b)b)", "(?:a{2})", "(?:a{0,2}b)", "(?:)"]
+
+
+def repeated_rows():
+    """Each quantifier behind each of these, lazy or not."""
+    yield "each quantifier behind each term, lazy or not: the whole of each text of a and b"
+    for lazy in ("", "?"):
+        patterns = [f"^{term}{quantifier}{lazy}$" for term in REPEATED for quantifier in QUANTIFIERS]
+        sizes = (2,) if lazy else range(4)
+        yield searches([[pattern, word, re.search(in_python(pattern), word) is not None]
+                        for pattern in patterns for word in words("ab", sizes)])
 
 
 def inner_look_rows():
@@ -2820,8 +3447,10 @@ def ahead_rows():
     yield from far_rows()
     yield from near_both_rows()
     yield from edge_rows()
+    yield from edge_pair_rows()
     yield from inner_look_rows()
     yield from repeated_look_rows()
+    yield from repeated_rows()
     yield from front_limit_rows()
     yield from look_limit_rows()
     yield from table_rows()
@@ -2873,6 +3502,14 @@ STEPS = {
     "(?:a{0,1}|b)": 5, "(?:\\p{L}?|b)": 6, "(?:^|a)": 5, "(?:a|b|c|d)": 9, "(?:\\B)": 1, "(?:$)": 1,
     "(?:(?=\\b))": 3, "(?:(?=\\B))": 3, "(?:(?=^))": 3, "(?:(?=(?:a|b)?))": 10, "(?:(?=(?:|a)))": 6, "(?:(?=a??))": 6,
     "(?:(?<=\\b))": 3, "(?:(?<=$))": 3, "(?:(?<!a|b|c))": 9, "(?:(?<=(?:ab)*))": 6, "(?:(?<=a?))": 3, "(?:(?!\\s))": 4}
+# The same of classes: each set, property and character of one counts, and so does a hyphen last or first in it.
+STEPS_OF_CLASSES = {
+    "[\\Dabcde]": 1, "[\\Dabcdef]": 2, "[\\dabcdef]": 1, "[\\dabcdefg]": 2, "[\\Wab]": 1, "[\\Wabc]": 2, "[\\wabc]": 1,
+    "[\\wabcd]": 2, "[\\sabcde]": 2, "[\\sabcdef]": 3, "[\\Sabcd]": 2, "[\\Sabcde]": 3, "[abcdef-]": 1, "[abcdefg-]": 2,
+    "[-abcdef]": 1, "[-abcdefg]": 2, "[^abcdefg]": 1, "[^abcdefgh]": 2, "[\\P{L}]": 2, "[^\\P{L}]": 2,
+    "[\\P{L}abcdefg]": 2, "[\\P{L}abcdefgh]": 3, "[aaaaaaaa]": 2, "[a-bb-cc-dd-ee-ff-gg-h]": 1,
+    "[a-bb-cc-dd-ee-ff-gg-hh-i]": 2, "[\\b\\t\\0\\cA\\x41\\u0042\\-]": 1,
+    "[\\b\\t\\0\\cA\\x41\\u0042\\-\\]]": 2}
 MOST_STEPS, MOST_STEPS_OF_ALL, MOST_TIMES = 2000, 2600, 1000
 
 
@@ -2955,7 +3592,7 @@ def refusal_rows():
     yield refusals("taken", in_forms(forms, ("=", "!", "<=", "<!")))
     above = ("1001}", "1001,}", "1001,1002}", "0,1001}", "1000,1001}", "2000}", "10000}", "01001}")
     yield refusals("it has a count above 1000", [f"a{{{count}" for count in above])
-    most = {atom: MOST_STEPS // steps for atom, steps in STEPS.items()}
+    most = {atom: MOST_STEPS // steps for atom, steps in {**STEPS, **STEPS_OF_CLASSES}.items()}
     above = [f"{atom}{{{count + 1}}}" for atom, count in most.items() if count < MOST_TIMES]
     yield refusals("a counted term takes more than 2000 steps", above)
     yield refusals("taken", [f"{atom}{{{min(MOST_TIMES, count)}}}" for atom, count in most.items()])
@@ -3000,6 +3637,12 @@ def rows_of_two_reasons():
         others = [second for second, other in REASONS.items() if other != why]
         yield refusals(why, [form.format(first, second) for second in others for form in ("{}{}", "{}|b{}", "{}(?={})")])
         yield refusals(why, [f"{whole}{first}", f"{first}{whole}", f"(?:{whole})(?={first})", f"(?<n>a)(?<n>b){first}"])
+    unlike = ("(?<n>a)(?<n>b){}", "{}(?<n>a)(?<n>b)", "(?<n>a){}(?<n>b)", "\\00{}", "{}\\00", "({}", "{})", "{}[",
+              "[{}", "{}\\", "{}(?", "{}a{{", "{}\\p{{", "*{}", "{}**", "{}(?<n", "{}[\\!]", "{}[b-a]", "{}(?<=", "{}]")
+    yield refusals(NOT_TAKEN, [form.format(whole) for form in unlike])
+    forms = ("(?<{}>x)", "(?<a{}>x)", "(?<{}a>x)", "[{}]", "a{{{}}}", "\\p{{{}}}", "(?{}a)", "\\x{}", "\\u{{{}}}",
+             "\\c{}")
+    yield refusals(NOT_TAKEN, in_forms(forms, ("\\!", "\\1", "\\k", "\\~")))
     long = [{"pattern": [[piece, 1], ["a", 2000]]} for piece in (*REASONS, whole)]
     long += [{"pattern": [["a", 2000], [piece, 1]]} for piece in (*REASONS, whole)]
     yield {"ask": "refusals", "of": "it has more than 2000 characters", "long": long}, len(long)
@@ -3167,8 +3810,75 @@ def whole_rows():
     yield {"ask": "long texts", "of": WHOLE_PATTERNS, "yes": right, "no": wrong}, len(right) + len(wrong)
 
 
+def whole_property_rows():
+    """The names of properties and of their values, in the whole grammar."""
+    yield ("the whole grammar: each property and each value by each of its names, Script_Extensions with those of "
+           "Script; and one letter off")
+    categories, scripts = ([name for names, _ in values_of(table) for name in names] for table in (CATEGORIES, SCRIPTS))
+    binaries = [name for names in BINARIES for name in names.split("/")]
+    binaries += [*MADE, "Changes_When_NFKC_Casefolded", "CWKCF"]
+    prefixes = (("", categories + binaries), ("gc=", categories), ("General_Category=", categories), ("sc=", scripts),
+                ("Script=", scripts), ("scx=", scripts), ("Script_Extensions=", scripts))
+    for prefix, names in prefixes:
+        yield texts(WHOLE_PATTERNS, [f"\\p{{{prefix}{name}}}" for name in names], lambda text: True)
+    for prefix, names in (("", categories + binaries), ("gc=", categories), ("scx=", scripts)):
+        off = sorted({spoilt for name in names for spoilt in one_letter_off(name)} - set(names))
+        yield texts(WHOLE_PATTERNS, [f"\\p{{{prefix}{name}}}" for name in off], never)
+    others = [*OTHER_PROPERTIES, *(f"{name}={value}" for name in binaries for value in ("", "Y", "Yes", name))]
+    others += [f"{prefix}={name}" for prefix in ("scx", "Script_Extensions", "sc") for name in categories + binaries]
+    prefixes = ("", "gc", "scX", "Scx", "script_extensions", "ScriptExtensions", "Scripts")
+    others += [f"{prefix}={name}" for prefix in prefixes for name in (*scripts[:4], *binaries[:4])]
+    yield texts(WHOLE_PATTERNS, [f"\\p{{{name}}}" for name in others], never)
+
+
 HEXADECIMAL = DIGITS + "ABCDEFabcdef"
 UNFIT = "([{\\)]}"
+
+
+# Atoms, those that the engine does not take, and what is no atom; what may stand behind an atom, and what may not.
+ATOMS = (
+    "a", "\u00e9", "\uffff", "\U0001f600", "\ufeff", " ", "/", "-", ",", ".", "\\.", "\\/", "\\n", "\\d", "\\W",
+    "\\0", "\\cA", "\\x41", "\\u0041", "\\u{1F600}", "\\ud83d\\ude00", "\\p{L}", "\\P{sc=Latn}", "[a]", "[^a]",
+    "[^]", "[]", "(a)", "()", "(?:a)", "(?:)", "(?<n>a)", "(|)", "((?=a))", "(?:^)")
+ALONE = ("(a)\\1", "\\1(a)\\1", "(?<n>)\\k<n>", "\\ud83d", "\\ude00", "\\u{D83D}", "\\p{CWKCF}", "\\p{scx=Latn}")
+NO_ATOMS = (
+    "", "^", "$", "\\b", "\\B", "(?=a)", "(?!a)", "(?<=a)", "(?<!a)", "|", "a|", "(?=a)|", "a^", "(a)(?=a)", "a*?")
+BEHIND_ATOMS = (
+    "*", "+", "?", "*?", "+?", "??", "{0}", "{1}", "{2,}", "{2,3}", "{3,3}", "{2,10}", "{0}?", "{2,}?", "{2,3}?")
+BEHIND_NOTHING = (
+    "**", "*+", "+*", "++", "?*", "?+", "???", "*??", "+??", "{1}{1}", "{1}*", "{1}+", "{1}??", "{,1}", "{}", "{,}",
+    "{2,1}", "{10,2}", "{a}", "{1", "{1,", "{1,2", "{ 1}", "{1 }", "{1,2,3}")
+
+# Characters that are shown as nothing, as a blank or with the one before.
+HARDLY_SEEN = (
+    "\0\t\n\r #\u00a0\u00ad\u0300\u034f\u061c\u180e\u200b\u200d\u200e\u2028\u2060\ufe0f\ufeff\ufffe\U000e0020")
+
+
+def character_rows():
+    """Characters that stand for themselves, of each kind."""
+    yield "each character that is none of the syntax is one of a pattern: by itself, in a class and in a name's place"
+    ranges = ((0, 0x180), (0x370, 0x3A3), (0x2000, 0x2070), (0xD7F0, 0xD800), (0xE000, 0xE010), (0xF8F0, 0xF910),
+              (0xFDC8, 0xFDF4), (0xFE00, 0xFE10), (0xFFE0, 0x10010), (0x1FFF0, 0x20010), (0xE0000, 0xE0080),
+              (0xEFFF0, 0xF0010), (0xFFFF0, 0x100010), (0x10FFF0, 0x110000))
+    tried = [chr(point) for first, end in ranges for point in range(first, end)]
+    yield refusals("taken", [f"{character}+" for character in tried if character not in SYNTAX[:-1]])
+    yield refusals("taken", [f"[{character}]" for character in tried if character not in "\\]^"])
+    yield texts(WHOLE_PATTERNS, tried, lambda text: text not in SYNTAX[:-1] or text in ".^$|")
+    yield texts(WHOLE_PATTERNS, [f"[a{character}]" for character in tried], lambda text: text[2] not in "\\]")
+    yield "what is shown as nothing or as little stands for itself: blanks, marks, what joins, and the byte order mark"
+    rows = []
+    for character in HARDLY_SEEN:
+        for form in ("{}", "[{}]", "(?:{})", "{}{{1}}"):
+            one = form.format(character)
+            rows += [[f"^{one}$", character, True], [f"^{one}$", "", False], [f"^a{one}b$", "ab", False]]
+            rows += [[f"^a{one}b$", f"a{character}b", True], [f"^{one}a", "a", False], [f"a{one}$", "a", False]]
+    yield searches(rows)
+    yield "each quantifier behind each atom, and behind what is none"
+    for of, more in ((PATTERNS, ()), (WHOLE_PATTERNS, ALONE)):
+        expected = {atom + quantifier: quantifier in BEHIND_ATOMS
+                    for atom in (*ATOMS, *more) for quantifier in (*BEHIND_ATOMS, *BEHIND_NOTHING)}
+        expected |= {none + quantifier: False for none in NO_ATOMS for quantifier in (*BEHIND_ATOMS, *BEHIND_NOTHING)}
+        yield texts(of, expected, expected.get)
 
 
 def but(left_out):
@@ -3315,15 +4025,147 @@ def place_rows():
     yield texts(WHOLE_PATTERNS, classes, classes.get)
 
 
+# Terms that read a `b` in each match, and terms that do not.
+NEEDING = [
+    "b", "[b]", "[b-b]", "\\x62", "[^b]", "[bd]", "[bb]", "[bb-d]", "[ab]", "[a-b]", "[b-d]", ".", "", "^", "\\b",
+    "b?", "b*", "b+", "b{0}", "b{1}", "b{2}", "b{0,}", "b{1,}", "b{0,0}", "b{0,1}", "b{1,2}", "(?:b)?", "(?:b|)",
+    "(?:|b)", "(?:ab)*", "(?:b|c)", "(?:c|b)", "(?:bc|cb)", "(?:b|bc)", "(?=b)", "(?!b)", "(?<=b)", "(?<!b)",
+    "(?=ab)", "(?!ab)", "(?<=ab)", "(?<!ab)", "(?=.*b)", "(?!.*b)", "\u00e9", "[b\u00e9]"]
+# What stands beside them, and long texts of each, with a `b` or without.
+NEEDED = [
+    "{}", "{}|[ac]", "[ac]|{}", "{}|c", "c|{}", "^a*{}$", "(?:{}|[ac])$", "(?:[ac]|{}){{2}}$", "{}(?=c$)", "(?<=^a){}"]
+LONG_TEXTS = ["a" * 130, "a" * 130 + "b", "b" + "a" * 130, "a" * 130 + "c", "a" * 70 + "b" + "a" * 70, "\u00e9" * 65]
+
+
+def needed_rows():
+    """Searches of long texts for what each match reads, or does not."""
+    yield ("terms that read a character in each match, or do not, alone and beside others, in texts of more than 128 "
+           "bytes that have it and that lack it")
+    patterns = [form.format(term) for form in NEEDED for term in NEEDING]
+    told = {pattern: re.compile(in_python(pattern), re.ASCII) for pattern in patterns}
+    rows = []
+    for pattern, found in told.items():
+        for text in LONG_TEXTS:
+            parts = [[letter, len(list(run))] for letter, run in itertools.groupby(text)]
+            rows.append([[[pattern, 1]], parts, found.search(text) is not None])
+    lacking = ("\\p{Lu}", "[\\p{Lu}b]", "[b\\p{Lu}]", "\\P{Ll}", "[^b]b?")
+    yield long_searches(rows + [[[[pattern, 1]], [["A", 130]], True] for pattern in lacking])
+
+
+def many_rows():
+    """Many names, look-arounds, marks and places."""
+    yield "names of groups of many characters, which differ in the last or in none, and many of them"
+    names = ["a" * size for size in (15, 16, 17, 31, 32, 33, 63, 64, 127, 128, 129, 255, 256, 257, 900)]
+    expected = {f"(?<{name}>x)(?<{name[:-1]}{last}>y)": last == "b" for name in names for last in "ab"}
+    many = "".join(f"(?<n{number}>)" for number in range(150))
+    expected |= {many: True, f"{many}(?<n150>)": True, f"{many}(?<n149>)": False, f"(?<n149>){many}": False,
+                 f"(?<n75>){many}": False, "(?<a>x){0}(?<a>y)": False, "(?<a>x){0}(?<b>y)": True,
+                 "(?:(?<a>x)){0}(?<a>y)": False, "(?!(?<a>x))(?<a>y)": False, "(?<!(?<a>x))(?<a>y)": False,
+                 "(?<a>x)(?!(?<a>y))": False, "(?<a>x){2}": True, "(?:(?<a>x)){3,}": True}
+    for of in (PATTERNS, WHOLE_PATTERNS):
+        yield texts(of, expected, expected.get)
+    references = {f"{many}\\k<n{number}>": number < 150 for number in (0, 1, 74, 75, 148, 149, 150, 151)}
+    references |= {f"{many}\\{number}": number < 151 for number in (1, 2, 9, 10, 99, 100, 149, 150, 151, 152, 1500)}
+    references |= {
+        "(a){0}\\1": True, "(?:(a)){0}\\1": True, "(a){0}\\2": False, "(?<a>x){0}\\k<a>": True, "(?!(a))\\1": True,
+        "\\1(?!(a))": True, "(?<!(?<n>a))\\k<n>": True, "(?!(?<n>a))\\k<n>": True, "(?:(?<n>a)|b)\\k<n>": True,
+        "(?:(?<n>a)|\\k<n>)": True, "((?<n>a))\\2": True, "((?<n>a))\\3": False, "(?:(?<n>a))\\2": False,
+        "(?<a\\u{00000062}>)\\k<ab>": True, "(?<ab>)\\k<\\u{000061}\\u0062>": True, "(?<ab>)\\k<\\u0061>": False}
+    yield texts(WHOLE_PATTERNS, references, references.get)
+    yield refusals("it has a property that is not known here",
+                   [form.format("x" * size) for size in (28, 29, 32, 33, 64, 65, 128, 256, 900)
+                    for form in ("\\p{{{}}}", "[\\P{{{}}}]", "\\p{{gc={}}}", "\\p{{{0}={0}}}")])
+    yield "look-arounds for many characters, and loops that go round often"
+    rows = []
+    for times in (128, 255, 256, 257, 1000):
+        for more in (0, 1):
+            run = [["x", 1], ["a", times - more]]
+            rows += [[[[f"(?<=a{{{times}}})b", 1]], [*run, ["b", 1]], not more],
+                     [[[f"(?<=xa{{1,{times - 1}}})b", 1]], [*run, ["b", 1]], bool(more)],
+                     [[[f"x(?=a{{{times}}})", 1]], run, not more], [[[f"x(?!a{{{times}}})", 1]], run, bool(more)],
+                     [[[f"^xa{{{times}}}$", 1]], run, not more]]
+    for times in (255, 256, 257, 65_535, 65_536):
+        for end in "bc":
+            rows += [[[["^(?:a|ab)*b$", 1]], [["a", times], [end, 1]], end == "b"],
+                     [[["^[^b]*b$", 1]], [["\u00e9", times], [end, 1]], end == "b"],
+                     [[["^(?:(?!ac).)*$", 1]], [["a", times], [end, 1]], end == "b"]]
+    yield long_searches(rows)
+    yield "many groups side by side, and many look-arounds of each kind in one pattern and in one part of it"
+    rows = []
+    for times in (63, 64, 65, 128, 129, 251, 300):
+        rows += [[[["(a)", times]], [["a", times - more]], not more] for more in (0, 1)]
+        rows += [[[["^", 1], [f"(?={'.' * 2}a*)", min(times, 129)], ["a{3}", 1]], [["a", 2 + more]], bool(more)]
+                 for more in (0, 1)]
+        looks = [["(?<=xa)(?=ab)", 1], ["(?=ab)(?<=xa)", min(times, 140)], ["ab", 1]]
+        rows += [[looks, [["x", 1], ["a", 2], [last, 1]], last == "b"] for last in "bc"]
+        rows += [[[[f"(?:(?<=ab)(?=ab)ab){{{min(times, 200) - more}}}$", 1]], [["ab", min(times, 200)]], bool(more)]
+                 for more in (0, 1)]
+        for one in "bc":
+            beside = ["(?<=aa)(?=bb)b", 1]
+            rows.append([[["^aa", 1], [f"(?={one})", min(times, 140)], beside], [["aabb", 1]], one == "b"])
+    yield long_searches(rows)
+    yield "the last of several look-aheads at the front, that looks for what is not there"
+    rows = []
+    for times in (1, 2, 3, 4, 5, 7, 8, 9, 10, 16, 17, 33):
+        for last in "bc":
+            rows.append([[["^", 1], ["(?=a*b)", times], [f"(?=a*{last})a", 1]], [["aaab", 1]], last == "b"])
+            rows.append([[["^", 1], ["(?!a*c)", times], [f"(?!a*{last})a", 1]], [["aaab", 1]], last == "c"])
+    yield long_searches(rows)
+    yield "many alternatives, and in the whole grammar many groups"
+    rows = []
+    for times in (63, 64, 65, 127, 128, 129, 254, 255, 256, 257, 999):
+        rows += [[[["a|", times], ["b", 1]], [[letter, 1]], letter != "c"] for letter in "abc"]
+        between = ["b|", min(times, 990)]
+        rows += [[[["^(?:a|", 1], between, ["c)$", 1]], [[letter, 1]], letter != "d"] for letter in "abcd"]
+        rows += [[[["^(?:", 1], ["|", times], ["c)$", 1]], [[letter, 1]], letter == "c"] for letter in "ac"]
+    yield long_searches(rows)
+    right, wrong = [], []
+    for times in (127, 128, 255, 256, 65_535, 65_536):
+        right.append([[f"\\{times}", 1], ["()", times]])
+        wrong.append([["()", times], [f"(?:)\\{times + 1}", 1]])
+    yield {"ask": "long texts", "of": WHOLE_PATTERNS, "yes": right, "no": wrong}, len(right) + len(wrong)
+    yield "what looks far both ways, at places of texts of many thousand characters"
+    rows = []
+    for far in (255, 256, 257, 511, 512, 513, 1023, 1024, 1025, 4096, 65_536):
+        for letter, found in (("d", True), ("x", False)):
+            rows += [[[["(?<=ab)(?=cd)", 1]], [["x", far], ["abc", 1], [letter, 1], ["x", 3]], found],
+                     [[["(?<=ab)(?=cd)", 1]], [["x", 3], ["abc", 1], [letter, 1], ["x", far]], found],
+                     [[["^(?:(?!abcd)(?<!cdxab).)*$", 1]], [["x", far], ["abc", 1], [letter, 1], ["x", 3]], not found],
+                     [[["(?<=^ab.*)(?=cd$)", 1]], [["ab", 1], ["x", far], ["c", 1], [letter, 1]], found]]
+    yield long_searches(rows)
+
+
 def ecma_rows():
     """The rows of patterns of ECMA-262."""
     return rows_of(escape_rows, name_rows, class_rows, member_rows, look_rows, ahead_rows, limit_rows, property_rows,
-                   whole_rows, place_rows)
+                   whole_rows, whole_property_rows, character_rows, place_rows, needed_rows, many_rows)
 
 
 # The parts of `stdin`, by their crates.
+def in_planes(of, places, others=""):
+    """Of planes that have characters, how many are right, all but the others, and the sum of their numbers."""
+    rows = []
+    for low, high in ((0, 0x10000), (0x10000, 0x20000), (0x20000, 0x20400), (0x2FC00, 0x30400), (0xE0000, 0xE0400),
+                      (0xEFC00, 0xF0400), (0x10FC00, 0x110000)):
+        right = [it for it in range(low, high) if not 0xD800 <= it <= 0xDFFF and chr(it) not in others]
+        rows.append([low, high, len(right), sum(right)])
+    return {"ask": "sums", "of": of, "places": places, "rows": rows}, len(rows) * len(places)
+
+
+def report_rows():
+    """What counts as a character, and what stands in errors and places as it is."""
+    yield "each code point but a surrogate is one character (RFC 8259, section 1), alone and within 32 bytes"
+    yield in_planes("one character", [["", ""]])
+    yield sums("33 characters", [["a" * 16, "a" * 16]], lambda point: True, 0x10000)
+    yield "each but those of RFC 8259, section 7, stands in a JSON string as it is"
+    yield in_planes("texts that stand in errors", [["\u00e9", "a"]], '"\\' + "".join(map(chr, range(32))))
+    yield "and each but those of RFC 6901, section 3, in a place"
+    yield in_planes("texts that stand in places", [["", ""]], "~/")
+
+
 PARTS = {"strkw_label": label_rows, "strkw_coding": coding_rows, "strkw_pattern": pattern_rows, "strkw_ecma": ecma_rows,
-         "strkw_uri": uri_rows, "strkw_net": net_rows, "strkw_mail": mail_rows, "strkw_time": time_rows}
+         "strkw_uri": uri_rows, "strkw_net": net_rows, "strkw_mail": mail_rows, "strkw_time": time_rows,
+         "strkw_report": report_rows}
 
 
 @functools.lru_cache(None)

@@ -13,11 +13,11 @@ from dataclasses import dataclass
 from itertools import combinations, product, zip_longest
 from pathlib import Path
 
-from keyword_meaning import (CHECKS, KEYWORDS, MEMBERS, Number, answer, answer_to_line, compact, named_lines, parsed,
-                             place, said)
+from keyword_meaning import (CHECKS, KEYWORDS, MEMBERS, Number, answer, answer_to_line, compact, literal_pattern,
+                             named_lines, parsed, place, said)
 from keyword_texts import (DRAFTS, ENCODERS, FORMAT_NAMES, FORMATS, JSON_TEXTS, MOST, NO_ENCODINGS, NO_JSON_TEXTS,
-                           UNKNOWN_CODECS, UNKNOWN_FORMATS, UNKNOWN_MEDIA_TYPES, encoded_bytes, encodings, format_in,
-                           near)
+                           OTHER_CODECS, OTHER_FORMATS, OTHER_MEDIA_TYPES, UNKNOWN_CODECS, UNKNOWN_FORMATS,
+                           UNKNOWN_MEDIA_TYPES, encoded_bytes, encodings, format_in, near)
 
 CRATE = Path(__file__).resolve().parent.parent / "crates" / "strkw_test_rows"
 MARK = "# by tools/keyword_rows.py"
@@ -868,8 +868,13 @@ WORDS = ("x", "draft", "7x", "{", "}", "[", "]", ",", ":", "\"draft\"", "{]", "[
 # Names that other programs have, and some of other shapes.
 OTHER_MEMBERS = ("validateFormats", "validate-formats", "ignoreUnknownFormats", "ignore-unknown-formats", "$schema",
                  "$ref", "data", "value", "text", "id", "patterns", "formats_by_dialect", "draft\0", "\u00e9",
-                 "n" * 300, "$comment", "comment", "//", "$id", "$defs", "jsonrpc", "method", "params", "version", "name",
-                 "title", "description", "type", "x-draft", "_draft", "json_media_type", "codecs", "overridden")
+                 "n" * 300, "$comment", "comment", "//", "$id", "$defs", "jsonrpc", "method", "params", "version",
+                 "name", "title", "description", "type", "x-draft", "_draft", "json_media_type", "codecs", "overridden",
+                 "instances", "schemas", "draftVersion", "draft_version", "dialect", "format", "options", "strict",
+                 "input", "document", "string", "json", "subject", "validate", "validate_format", "check_formats",
+                 "assert_formats", "formatAssertion", "ignore_unknown_format", "ignore_unknown", "unknown_formats",
+                 "fold_to_false", "folded", "limits", "timeout", "meta", "tags", "trace", "request_id", "requestId",
+                 "result", "error", "", " ")
 
 
 def lines_of_each_shape():
@@ -1303,38 +1308,677 @@ def lines_told_by_their_ends():
             yield made(compact({"input": [line + "\n" for line in lines[at:at + 6]]}), ["\n".join(told)])
 
 
+# What stands beside the seven keywords in schema objects of the drafts, of OpenAPI and of validators' own. Nothing of
+# it takes them away, adds to them or changes them (docs/PROGRAMS.md: every other keyword adds nothing).
+BESIDE = (
+    '{"$ref":"#/definitions/x"}', '{"$ref":"#"}', '{"$dynamicRef":"#x"}', '{"$recursiveRef":"#"}', '{"type":"number"}',
+    '{"type":"null"}', '{"type":["integer","null"]}', '{"type":[]}', '{"type":"string"}', '{"enum":[]}',
+    '{"enum":["y"]}', '{"enum":["ab"]}', '{"const":"y"}', '{"const":"ab"}', '{"const":null}', '{"nullable":true}',
+    '{"x-nullable":true}')
+BESIDE_IN_ONE_DRAFT = (
+    '{"$anchor":"x"}', '{"$dynamicAnchor":"x"}', '{"$recursiveAnchor":true}', '{"$id":"https://example.com/x"}',
+    '{"id":"https://example.com/x"}', '{"$comment":"x"}', '{"$defs":{"x":{"maxLength":0}}}',
+    '{"definitions":{"x":{"minLength":0}}}', '{"not":{}}', '{"not":true}', '{"not":{"minLength":1}}',
+    '{"allOf":[{"maxLength":0}]}', '{"allOf":[true]}', '{"anyOf":[false]}', '{"anyOf":[{}]}', '{"oneOf":[]}',
+    '{"if":true,"then":false}', '{"if":false,"else":true}', '{"then":true}', '{"else":{"maxLength":9}}',
+    '{"dependentSchemas":{"format":false}}', '{"dependencies":{"format":["x"]}}',
+    '{"dependentRequired":{"format":["x"]}}', '{"extends":{"maxLength":0}}', '{"disallow":"string"}',
+    '{"disallow":"any"}', '{"divisibleBy":2}', '{"minimum":3}', '{"maximum":0}', '{"multipleOf":2}',
+    '{"exclusiveMinimum":true}', '{"exclusiveMaximum":true}', '{"exclusiveMinLength":true}',
+    '{"exclusiveMaxLength":true}', '{"minItems":3}', '{"maxItems":0}', '{"uniqueItems":true}', '{"minProperties":3}',
+    '{"maxProperties":0}', '{"required":["format"]}', '{"required":true}', '{"optional":true}',
+    '{"properties":{"format":{"maxLength":0}}}', '{"patternProperties":{"^a":false}}',
+    '{"propertyNames":{"maxLength":0}}', '{"additionalProperties":false}', '{"unevaluatedProperties":false}',
+    '{"unevaluatedItems":false}', '{"items":{"maxLength":0}}', '{"prefixItems":[false]}', '{"contains":false}',
+    '{"minContains":1}', '{"default":"ab"}', '{"default":"x"}', '{"examples":["ab"]}', '{"example":"ab"}',
+    '{"deprecated":true}', '{"readOnly":true}', '{"writeOnly":true}', '{"title":"x"}', '{"description":"x"}',
+    '{"discriminator":"x"}', '{"xml":{}}', '{"externalDocs":{}}', '{"formatMinimum":"2020-01-01"}',
+    '{"formatMaximum":"1999-01-01"}', '{"formatExclusiveMinimum":true}', '{"formatAssertion":false}',
+    '{"formatAssertion":true}', '{"contentAssertion":true}',
+    '{"media":{"type":"application/json","binaryEncoding":"base64"}}', '{"links":[]}', '{"instanceof":"String"}',
+    '{"transform":["trim"]}', '{"trim":true}', '{"ignoreCase":true}', '{"patternFlags":"i"}', '{"flags":"i"}',
+    '{"regexp":"^z"}', '{"allowEmpty":true}', '{"allowEmptyValue":true}', '{"errorMessage":"x"}', '{"message":"x"}',
+    '{"collectionFormat":"csv"}', '{"x-y":1}', '{"enabled":false}', '{"$data":"1/x"}', '{"$merge":{}}', '{"$patch":{}}',
+    '{"overridden":true}', '{"draft":4}', '{"schema":{}}', '{"instance":"x"}', '{"validate_formats":false}',
+    '{"ignore_unknown_formats":true}', '{"fold":true}', '{"":0}', '{"/":0}', '{"~":0}', '{"0":0}')
+
+
+def others_beside():
+    """Other members of a schema object, before and behind keywords, change nothing of what these say and refuse."""
+    right = {"minLength": 3, "format": "date"}
+    for other in map(parsed, BESIDE + BESIDE_IN_ONE_DRAFT):
+        is_for_all = compact(other) in BESIDE
+        for draft in DRAFTS if is_for_all else (7,):
+            yield asked(draft, {**other, **right}, ["ab", 5], validate_formats=True)
+            yield requested(draft, {**right, **other}, "ab", validate_formats=True)
+        yield requested(202012, {**other, "contentMediaType": "x", "maxLength": 1, "pattern": "^b"}, "ab", fold=True)
+        yield requested(6, {**other, "contentEncoding": "base64", "maxLength": -1, "pattern": "a+"}, "ab")
+        for draft, keyword in product((4, 7, 202012), KEYWORDS) if is_for_all else ():
+            yield asked(draft, {**other, "contentMediaType": JSON, keyword: RIGHT[keyword]}, keyword=keyword)
+        if is_for_all:
+            yield asked(202012, {**other, "contentMediaType": "x", "contentSchema": True, "pattern": "^b"}, ["ab"])
+            yield asked(4, {**right, "pattern": 5, **other})
+
+
+# Names that other programs and standards have for the keywords.
+ALSO_NAMED = {
+    "contentMediaType": ("content_media_type", "content-media-type", "contentType", "mediaType", "media", "mimeType"),
+    "contentEncoding": ("content_encoding", "content-encoding", "encoding", "binaryEncoding", "transferEncoding"),
+    "contentSchema": ("content_schema", "content-schema", "contentModel", "schema"),
+    "format": ("formats", "$format", "x-format", "formatName", "stringFormat"),
+    "minLength": ("min_length", "min-length", "minLen", "minlen", "min", "minSize", "minItems", "minCharacters",
+                  "length"),
+    "maxLength": ("max_length", "max-length", "maxLen", "maxlen", "max", "maxSize", "maxItems", "maxCharacters",
+                  "size"),
+    "pattern": ("regex", "regexp", "match", "matches", "patternProperties", "x-pattern", "pattern_")}
+
+
+def other_names_in_requests():
+    """A name that is one letter off, or another program's, is no keyword in the schema object of a request."""
+    for keyword in KEYWORDS:
+        for name in dict.fromkeys((*near(keyword), *ALSO_NAMED[keyword])):
+            if keyword == "contentSchema":
+                yield requested(202012, {"contentMediaType": "x", name: parsed("1.5")}, "ab")
+                yield asked(202012, {"contentMediaType": "x", name: parsed("1.5")}, ["ab"])
+                continue
+            beside = "minLength" if keyword == "maxLength" else "maxLength"
+            yield requested(7, {beside: 3, name: -1}, "ab")
+            yield requested(7, {name: -1, beside: 1}, "abc")
+            yield requested(202012, {keyword: RIGHT[keyword], name: -1}, "ab", validate_formats=True)
+            if name in ALSO_NAMED[keyword]:
+                yield asked(7, {name: -1, beside: 3}, ["ab"])
+
+
+def other_standards_names():
+    """No draft has a format by a name that OpenAPI, another validator or an RFC's rule has."""
+    for name in OTHER_FORMATS:
+        assert format_in(202012, name) is None and format_in(4, name) is None
+        yield named(name)
+        yield asked(202012, {"format": name}, ["!"], validate_formats=True)
+        yield requested(7, {"format": name}, "!")
+        yield requested(7, {"format": name}, "!", ignore_unknown_formats=False)
+    for name in dict.fromkeys((*OTHER_CODECS, *(it for codec in ENCODERS for it in near(codec)))):
+        if name not in ENCODERS and name not in UNKNOWN_CODECS:
+            yield asked(7, {"contentEncoding": name}, ["!", "\u00e9=\n"])
+            yield asked(7, {"contentMediaType": JSON, "contentEncoding": name}, ["{}", "{:}"])
+            yield requested(7, {"contentEncoding": name}, "!")
+    for name in dict.fromkeys((*OTHER_MEDIA_TYPES, *near(JSON))):
+        if name not in UNKNOWN_MEDIA_TYPES:
+            yield asked(7, {"contentMediaType": name}, ["{:}", "\u00e9"])
+            yield asked(7, {"contentMediaType": name, "contentEncoding": "base64"}, ["!", "ezp9"])
+            yield requested(7, {"contentMediaType": name}, "{:}")
+
+
+# Objects that stand for a value in other programs and in other keywords.
+FOR_A_VALUE = tuple(map(parsed, (
+    '{"$data":"0/x"}', '{"$data":"#/x"}', '{"$ref":"#/x"}', '{"const":2}', '{"value":2}', '{"name":"date"}',
+    '{"source":"^a"}', '{"type":"application/json"}', '["date"]', '["^a","^b"]', '[2]', '{"$eval":"2"}',
+    '{"limit":2}')))
+
+
+def objects_for_values():
+    """An object or an array that stands for a value elsewhere is no string and no limit here."""
+    for keyword, value in product(KEYWORDS, FOR_A_VALUE):
+        beside = {"contentMediaType": "x"} if keyword == "contentSchema" else {}
+        for draft in (7, 202012):
+            yield asked(draft, {**beside, keyword: value}, ["ab"])
+        yield requested(7, {**beside, keyword: value}, "ab")
+
+
+# Patterns as other languages and libraries write them.
+OTHER_SYNTAX = (
+    "/^a/", "/^a$/", "/^a/i", "/a/", "^a/i", "(?i)^a", "(?i:^a)", "(?s)^a", "(?x)^ a", r"\Aa", r"\Aa\z", r"^a\Z",
+    r"^a\z", r"\A\S*\z", r"^\S*\Z", "^[[:alpha:]]", r"^\p{L}", r"^\Qa\E", "^a(?#x)", r"^a\b", r"\ba", "*a", "a*", "a?",
+    "%a%", "^*", "^a*$", 'r"^a"', "^(?<x>a)$", "^(?P<x>a)$", "^(?:a)$", "^(a)$|^b", "^a$|^b$", "^a|^b", "^(^a)$",
+    "^a\\", "^a[", "^(a", "^a)$", r"^\S*$ ", r" ^\S*$", r"^\S*$\n", r"^\s*$", r"^\W*$", r"^\S{0,}$", r"^[\S]*$",
+    r"^(\S*)$", "^a++", "^a$$", "^^a", "^(a||b)$")
+
+
+def patterns_of_other_languages():
+    """Each is shown to the builder as it stands, or compared where it is literal as it stands."""
+    for pattern in OTHER_SYNTAX:
+        yield asked(7, {"pattern": pattern}, ["a", "^a", "/^a/", "x"])
+        yield requested(7, {"pattern": pattern}, "a")
+        yield asked(7, {"pattern": pattern}, ["a", "x"], patterns=[[pattern, "a", "match"]])
+
+
+def refused_elsewhere():
+    """What is left out is refused for nothing: no name, no pattern and no number in its value; and bounds no length."""
+    for draft in DRAFTS:
+        for name, more in product(("nonsense", "", "uuid"), (CHECKED, {"formats_by_dialect": True})):
+            yield asked(draft, {"format": name, "maxLength": 1}, ["ab"], left_out=["format"], **more)
+            yield asked(draft, {"format": name}, keyword="format", left_out=["format"], **more)
+        for pattern in ("a+", "("):
+            yield asked(draft, {"pattern": pattern, "maxLength": 1}, ["ab"], left_out=["pattern"])
+            yield asked(draft, {"pattern": pattern}, keyword="pattern", left_out=["pattern"])
+        schema = {"contentMediaType": "x", "contentSchema": parsed("1.5"), "maxLength": 1}
+        yield asked(draft, schema, ["ab"], left_out=["contentSchema"])
+        for name in ("date", "ipv4", "ipv6", "hostname", "time", "uuid"):
+            for limit in ({"maxLength": 1}, {"minLength": 254}):
+                yield asked(draft, {"format": name, **limit}, ["a"], left_out=["format"], validate_formats=True)
+        for limits in ({"minLength": 3, "maxLength": 1}, {"format": "ipv4", "minLength": 16},
+                       {"format": "ipv4", "maxLength": 6}):
+            for keyword in limits:
+                yield asked(draft, limits, left_out=[keyword], validate_formats=True)
+        # A bad contentEncoding is refused beside a known media type also where it is left out itself.
+        for media_type in (JSON, "text/x", 5):
+            yield asked(draft, {"contentMediaType": media_type, "contentEncoding": 5}, left_out=["contentEncoding"])
+            yield asked(draft, {"contentMediaType": media_type, "contentEncoding": 5}, left_out=["contentMediaType"])
+
+
+# Bytes that are UTF-8, at the ends of what the lengths of Unicode's table 3-7 admit, and bytes that are none.
+UTF8 = tuple(map(bytes.fromhex, (
+    "C280", "DFBF", "E0A080", "ED9FBF", "EE8080", "EFBFBF", "F0908080", "F48FBFBF", "00", "7F")))
+NO_UTF8 = tuple(map(bytes.fromhex, (
+    "80", "BF", "C080", "C1BF", "C2", "C27F", "C2C0", "E08080", "E09FBF", "E0A0", "E0A07F", "EDA080", "EDBFBF",
+    "EDA0BDEDB880", "EFBF", "F0808080", "F08FBFBF", "F09080", "F4908080", "F5808080", "F7BFBFBF", "F888808080",
+    "FC8480808080", "FE", "FF", "FEFF0041", "FFFE4100", "C3A9FF", "E9")))
+
+
+def decoded_bytes():
+    """What a text encodes is to be UTF-8 (RFC 3629, section 4) before it is asked for its media type."""
+    for codec, encoder in ENCODERS.items():
+        for some in (UTF8, NO_UTF8):
+            texts = [encoder(sign + it + sign).decode() for it in some for sign in (b'"', b"")]
+            for draft in (6, 7):
+                yield asked(draft, {"contentMediaType": JSON, "contentEncoding": codec}, texts)
+            yield asked(7, {"contentMediaType": "n", "contentEncoding": codec}, texts[::2], media_types=[["n", "all"]])
+            yield asked(7, {"contentEncoding": codec}, texts[1::2])
+        for it in NO_UTF8[::4]:
+            yield requested(7, {"contentMediaType": JSON, "contentEncoding": codec}, encoder(it).decode())
+
+
+def places_with_each_character():
+    """Each character of ASCII stands in places, escaped as RFC 6901 has it alone, and in prefixes as it is."""
+    for least in range(0, 128, 16):
+        some = "".join(map(chr, range(least, least + 16)))
+        more = {"location": [some, ""], "way": ["", some], "at": [some, some],
+                "absolute": "https://example.com/" + some}
+        yield asked(7, {"minLength": 5}, ["ab"], **more)
+        yield asked(7, {"minLength": -1}, **more)
+        yield asked(202012, {"format": "x"}, ["ab"], **more)
+    for sign in ("\u0080", "\u00a0", "\u2028", "\ud7ff", "\ue000", "\uffff", "\U0001f600", "\U0010ffff", "/", "//",
+                 "~", "~0", "~1"):
+        more = {"location": [sign], "way": [sign, sign], "at": [sign + "a"], "absolute": sign}
+        yield asked(7, {"minLength": 5}, ["ab"], **more)
+        yield asked(7, {"pattern": 5}, **more)
+    for prefix in ("", "#", "/", "https://example.com/#/a", "https://example.com/s.json#a", "urn:x:y", "x?y", "a b",
+                   "%23"):
+        yield asked(7, {"minLength": 5}, ["ab"], location=["a"], absolute=prefix)
+
+
+# Characters that are apt to be escaped, replaced or left out: all from U+0080 to U+024F, marks, blanks, controls and
+# format characters of all planes, noncharacters, private ones, and the ends of planes.
+RANGES_SHOWN = (
+    (0x80, 0x24F), (0x300, 0x36F), (0x483, 0x489), (0x591, 0x5C7), (0x600, 0x620), (0x64B, 0x670), (0x6DD, 0x6DD),
+    (0x70F, 0x711), (0x8E2, 0x903), (0x93C, 0x94D), (0x9CD, 0x9CD), (0xE31, 0xE4E), (0xF0B, 0xF0C), (0x115F, 0x1161),
+    (0x1680, 0x1680), (0x17B4, 0x17D3), (0x180B, 0x180F), (0x1AB0, 0x1ABE), (0x1DC0, 0x1DC8), (0x2000, 0x206F), (0x20D0,
+    0x20F0), (0x2800, 0x2800), (0x3000, 0x3004), (0x302A, 0x3030), (0x3099, 0x309C), (0x3164, 0x3164), (0xA66F, 0xA672),
+    (0xD7FB, 0xD7FF), (0xE000, 0xE003), (0xF8FE, 0xF901), (0xFB1E, 0xFB1E), (0xFDD0, 0xFDEF), (0xFE00, 0xFE2F), (0xFEFF,
+    0xFF01), (0xFF9E, 0xFFA0), (0xFFE0, 0xFFFF), (0x10000, 0x10001), (0x101FD, 0x101FD), (0x10A01, 0x10A0F), (0x110BD,
+    0x110BD), (0x13430, 0x1343F), (0x1BCA0, 0x1BCA3), (0x1D165, 0x1D172), (0x1D173, 0x1D17A), (0x1F1E6, 0x1F1FF),
+    (0x1F3FB, 0x1F3FF), (0x1FFFE, 0x1FFFF), (0xE0000, 0xE007F), (0xE0100, 0xE010F), (0xEFFFE, 0xF0001), (0xFFFFE,
+    0x100001), (0x10FFFD, 0x10FFFF))
+
+
+def characters_shown():
+    """Each of them stands as it is in errors, refusals and notes, and counts as one."""
+    signs = [chr(it) for low, high in RANGES_SHOWN for it in range(low, high + 1)]
+    for at in range(0, len(signs), 48):
+        text = "".join(signs[at:at + 48])
+        size = len(text)
+        yield requested(7, {"maxLength": size - 1}, text)
+        yield requested(7, {"format": text}, "x", ignore_unknown_formats=False)
+        yield requested(7, {"pattern": text + "+"}, "x")
+        yield requested(202012, {"contentMediaType": "x", "contentSchema": text, "format": text}, "x")
+        yield asked(7, {"format": text, "maxLength": size - 1}, [text], formats=[[text, "none"]])
+        yield asked(7, {"minLength": size, "maxLength": size}, [text])
+
+
+def signs_in_texts():
+    """A text has no control character as it stands (RFC 8259, section 7), whichever lines before it were alike."""
+    for schema in ({"maxLength": 1}, {"minLength": 3, "contentMediaType": "x"}):
+        front = compact(numbered({"draft": 7, "schema": schema, "instance": ""}))[:-2]
+        for sign in (*map(chr, (it for it in range(32) if it != 10)), '"', "\\", "\x7f", "\x80", "\u2028", " ", "/"):
+            texts = (sign, "x" + sign, sign + "x", "x" * 40 + sign, "x" * 15 + sign + "x" * 16)
+            lines = [f'{front}{text}"}}' for text in texts]
+            told = [it for line in lines for it in answer_to_text(line)]
+            yield made(compact({"input": [line + "\n" for line in lines]}), ["\n".join(told)])
+            yield behind_alike(f'{front}x"}}', f'{front}"}}', *lines)
+
+
+# What stands before or behind a line in other forms of lines, and is no white space of JSON (RFC 8259, section 2).
+NO_SPACES_OF_JSON = (
+    *map(chr, (*range(9), 11, 12, *range(14, 32), 127)), "\x85", "\xa0", "\xad", "\u1680", "\u180e", "\u2000", "\u200b",
+    "\u200e", "\u2028", "\u2029", "\u202f", "\u205f", "\u2060", "\u3000", "\ufeff", "\ufffd", "\ufffe", ",", ";", ".",
+    "#", "//", "/**/", "--", "data: ", "data:", ")]}'", "&&", "x", "0", "null", "'", '"', "`", "\\", "\\n", "$", "-",
+    "+", "=", ":", "!", "?", "*", "(", ")", "<", ">", "[", "]", "{", "}", "|", "\x1b[0m", "\r\x1a", "END", "end")
+
+
+def lines_in_other_forms():
+    """A request with anything but white space of JSON around it is none, nor is one inside another value."""
+    one = compact(numbered(ONE_REQUEST))
+    for sign in NO_SPACES_OF_JSON:
+        lines = [sign + one, one + sign, sign + one + sign]
+        told = [it for line in (*lines, one) for it in answer_to_text(line)]
+        yield made(compact({"input": [*(line + "\n" for line in lines), one]}), ["\n".join(told)])
+        yield made(compact({"input": [[one + "\n", Number("17")], *(line + "\n" for line in lines)]}),
+                   ["\n".join(answer_to_text(one) * 17 + told[:-len(answer_to_text(one))])])
+    for front, tail in product(("", " ", "\t", "\r", " \t\r "), repeat=2):
+        yield made(compact({"input": [front + one + tail]}), answer_to_text(one))
+    schema = compact(numbered(ONE_REQUEST["schema"]))
+    for line in (f"[{one}]", f"[{one},{one}]", f"[[{one}]]", f'{{"request":{one}}}', f'{{"requests":[{one}]}}',
+                 f'{{"":{one}}}', compact(one), compact([one]), f'[7,{schema},"x"]',
+                 f'{{"0":7,"1":{schema},"2":"x"}}', f'{{"draft":7}},{one}', f"{one},", f"{{{one}}}", f"({one})",
+                 f"{one}{one}", f'{{"draft":7,"schema":{schema},"instance":"x",}}'):
+        yield made(compact({"input": [line]}), answer_to_text(line))
+    plain = {"draft": 7, "schema": {"maxLength": 1}, "instance": "x"}
+    for name in MEMBERS:
+        for value in (schema, f"[{schema}]", "{}", "[{}]", "true", "false", "7", "date", "x", "null", "[7]", "2020-12",
+                      ""):
+            yield lined({**plain, name: value})
+        for value in ([parsed(schema)], {name: RIGHT_MEMBERS[name]}, [RIGHT_MEMBERS[name]], {"": RIGHT_MEMBERS[name]}):
+            yield lined({**plain, name: value})
+    for line in ("# x", "// x", "-- x", "; x", "---", "...", "[DONE]", "quit", "exit", "end", "help", "?", "EOF",
+                 "valid", "fold", "{", "draft", "true", "false", '"end"', "\x04", "\x1a", "GET / HTTP/1.1", "<x/>",
+                 "7,{},x", "draft=7", "--help"):
+        yield made(compact({"input": [line + "\n", one]}), ["bad request", "end", *answer_to_text(one)])
+
+
+# Texts that other readers take for no text, decode or fold, each a text of as many characters as it has.
+SPELT = ("null", "true", "false", "0", "-1", "1.5", "NaN", "undefined", "None", "nil", "[]", "{}", '["a"]', '{"a":1}',
+         '"a"', "'a'", "%41", "%C3%A9", "%2F", "&amp;", "&#65;", "&lt;", r"\u0041", r"\x41", r"\n", "\\", "$a", "${a}",
+         "{{a}}", "%s", "%d", "{0}", "=?utf-8?q?a?=", "a+b", "+", "~1", "~0", "A\u030a", "\u212b", "\u00df", "ss",
+         "\u0130", "\ufb01", "\uff21", "\u1e9e", "\u1f88", "\u0149", "\u0390", "<b>", "<!--a-->", "a\\\nb", "`a`",
+         "a,b", "a;b", "a|b", "^a", "a$", "YQ==", "data:,a", "\u0661", "1,000", "1_000", "1e3", "0x10", "007", "+1",
+         " 1", "1 ", "-0", "Infinity")
+
+
+def texts_spelt_otherwise():
+    """A text is its characters, whatever they spell elsewhere."""
+    for text in SPELT:
+        size = len(text)
+        for schema in ({"minLength": size, "maxLength": size}, {"minLength": size + 1}, {"maxLength": size - 1},
+                       {"pattern": r"^\S*$"}, {"pattern": "^a"}, {"pattern": "^(null|true|0|a)$"}):
+            yield asked(7, schema, [text])
+            yield requested(7, schema, text)
+        yield asked(7, {"format": "n", "contentMediaType": "m"}, [text], formats=[["n", "none"]],
+                    media_types=[["m", "even"]])
+        yield asked(202012, {"contentMediaType": text, "contentEncoding": text, "contentSchema": text}, [text])
+        yield requested(202012, {"contentMediaType": text, "contentEncoding": text, "contentSchema": text}, text)
+        if literal_pattern(text) is None:
+            yield requested(7, {"pattern": text}, text)
+        if text not in FORMAT_NAMES:
+            yield requested(7, {"format": text}, text, ignore_unknown_formats=False)
+
+
+# Segments that paths, URIs and pointers of other kinds have, or read otherwise.
+SEGMENTS_OF_OTHERS = (
+    ".", "..", "...", "-", "--", "*", "**", "#", "#/a", "$", "$ref", "@", "0", "00", "-1", "+1", "1.0", "%", "%2F",
+    "%2f", "%7E", "%7E1", "%25", "%20", "~", "~~", "~2", "~01", "~10", "~1~0", "~0~1", "/..", "../", "./a", "//", "\\",
+    "a\\b", "a.b", "['a']", "[0]", '"a"', "'a'", " ", "  a", "a  ", "\t", "\r\n", "\0", "\u00a0", "\u2215", "\uff0f",
+    "\u2044", "\uff5e", "\u02dc", "?", "?a=b", "a&b", "a;b", "C:", "http://x", "\ufeff", "\u202e", "")
+
+
+def segments_of_others():
+    """A segment stands as it is but for `~` and `/`, and none is passed over or taken back."""
+    for sign in SEGMENTS_OF_OTHERS:
+        for segments in ([sign, "a"], ["a", sign, sign], [sign, "..", "a", sign]):
+            below = [f"  {place(segments[:end])}" for end in range(1, len(segments) + 1)]
+            yield made(compact({"segments": segments}), below)
+        yield asked(7, {"minLength": 5}, ["ab"], location=["a", sign], way=[sign, "b"], at=[sign], absolute="urn:x")
+
+
+def looking_alike(name):
+    """Names that look like the name, or are it to who passes over what is not seen."""
+    full = chr(ord(name[0]) + 0xFEE0)
+    behind = ("\0", "\u200b", "\u00ad", "\ufeff", "\u0301", "\n", "\t", "\u2028", ".", ":", "=", "?", "[]", "()", "#",
+    "/",
+              "~", "/0", " " + name, "," + name)
+    before = ("\ufeff", "\u200b", "$", "@", "_", "x-", "/", "#/", "schema/", "schema.")
+    inside = (full + name[1:], name.replace("e", "\u0435", 1), name.replace("a", "\u0430", 1),
+              name[:2] + "\u200c" + name[2:], f'"{name}"')
+    return [name + it for it in behind] + [it + name for it in before] + list(inside)
+
+
+def names_looking_alike():
+    """A name with a sign more, seen or not, is another name: of a keyword, of a member and of a format."""
+    for keyword in KEYWORDS:
+        for name in looking_alike(keyword):
+            if name == keyword:
+                continue
+            if keyword == "contentSchema":
+                yield requested(202012, {"contentMediaType": "x", name: parsed("1.5")}, "ab")
+                continue
+            beside = {"minLength": 3} if keyword == "maxLength" else {"maxLength": 1}
+            yield requested(7, {**beside, name: -1}, "ab")
+            yield asked(7, {name: -1, "minLength": 3}, ["ab"])
+    for member in MEMBERS:
+        for name in looking_alike(member):
+            if name != member:
+                yield lined({**ONE_REQUEST, name: RIGHT_MEMBERS[member]})
+    for name in ("date", "uri"):
+        for other in looking_alike(name):
+            if other != name:
+                yield named(other)
+                yield requested(7, {"format": other}, "x", ignore_unknown_formats=False)
+    for name in (*ENCODERS, JSON):
+        for other in looking_alike(name):
+            if other != name:
+                yield asked(7, {"contentMediaType" if name == JSON else "contentEncoding": other}, ["{:}"])
+
+
+def schemas_within():
+    """Only the members of the object itself count: nothing is followed, and nothing in it is looked into."""
+    inner = '{"maxLength":0,"minLength":9,"pattern":"^z","format":"ipv4","contentEncoding":5}'
+    for outer in ('{"$ref":"#/definitions/x","definitions":{"x":I}}', '{"$ref":"#/$defs/x","$defs":{"x":I}}',
+                  '{"allOf":[I]}', '{"anyOf":[I]}', '{"oneOf":[I]}', '{"not":I}', '{"if":I,"then":I,"else":I}',
+                  '{"then":I}', '{"else":I}', '{"properties":{"x":I}}', '{"items":I}', '{"contains":I}',
+                  '{"propertyNames":I}', '{"additionalProperties":I}', '{"dependentSchemas":{"x":I}}',
+                  '{"contentSchema":I}', '{"extends":I}', '{"schema":I}', '{"string":I}',
+                  '{"$schema":"http://json-schema.org/draft-04/schema#","x":I}', '{"":I}', '{"default":I}',
+                  '{"const":I}', '{"type":[I]}', '{"$defs":I}', '{"definitions":I}', '{"x-y":I}', '{"media":I}',
+                  '{"$merge":{"with":I}}'):
+        other = parsed(outer.replace("I", inner))
+        for draft in (6, 7, 202012):
+            yield asked(draft, {**other, "minLength": 3}, ["ab"])
+            yield requested(draft, {"maxLength": 1, **other}, "ab", fold=True)
+
+
+def drafts_as_they_are_written():
+    """A draft is told by its number as a whole one, written without a point and an exponent."""
+    for number, name in DRAFTS.items():
+        for written in (f"{number}.0", f"{number}.00", f"{number}e0", f"{number}E0", f"{number}0e-1",
+                        f"0.{number}e{len(str(number))}", f"-{number}", f'"{number}"', f'"{name}"', f'"draft{number}"',
+                        f"[{number}]", f'{{"draft":{number}}}', f'" {number}"', f"{number}.5", f"{number}0",
+                        f"1{number}", f"{number + 2 ** 32}", f"{number + 2 ** 16}", f"{number + 256}"):
+            yield asked(parsed(written), {"minLength": 5}, ["x"])
+            for line in ('{"draft":D,"schema":{"minLength":5},"instance":"x"}',
+                         '{"schema":{"minLength":5},"draft":D,"instance":"x"}'):
+                line = line.replace("D", written)
+                yield made(compact({"input": [line]}), answer_to_text(line))
+
+
+def cut(told):
+    """An output as the program shows it: of a long one the beginning, and how many bytes it has."""
+    size = len(told.encode())
+    return [told] if size < LONGEST_SHOWN else [f"{told[:60]}.. of {size + 1} bytes"]
+
+
+def long_ones():
+    """Texts, names, values and objects of any length are told whole, and count whole."""
+    end_of_line = '},"instance":"x"}'
+    for size in (1000, 1001, 1024, 4095, 4096, 4097, 10_000, 65_535, 65_536, 100_000):
+        times = Number(str(size))
+        long = "x" * size
+        sevens = "[" + "7," * size + "7]"
+        front, end = compact(numbered({"draft": 7, "schema": {"maxLength": size - 1}, "instance": ""})).split('""')
+        yield made(compact({"input": [front + '"', ["x", times], '"' + end]}),
+                   cut(f'error /maxLength: "{long}" is longer than {size - 1} characters\nend'))
+        for sign in ("x", "\u00e9"):
+            limits = {"minLength": size, "maxLength": size}
+            front, end = compact(numbered({"draft": 7, "schema": limits, "instance": ""})).split('""')
+            yield made(compact({"input": [front + '"', [sign, times], '"' + end]}), ["valid", "end"])
+        front = '{"draft":7,"ignore_unknown_formats":false,"schema":{'
+        yield made(compact({"input": [front + '"format":"', ["x", times], '"' + end_of_line]}), cut(
+            f"refused /format: Unknown format: '{long}'. Adjust configuration to ignore unrecognized formats\nend"))
+        for keyword in ("format", "pattern", "contentEncoding"):
+            yield made(compact({"input": [front + f'"{keyword}":[', ["7,", times], "7]" + end_of_line]}),
+                       cut(f'refused /{keyword}: {sevens} is not of type "string"\nend'))
+        front = '{"draft":202012,"schema":{"contentMediaType":"'
+        yield made(
+            compact({"input": [front, ["x", times], '","contentSchema":[', ["7,", times], "7]" + end_of_line]}),
+            cut(f'valid\nnote /contentMediaType: "{long}"\nnote /contentSchema: {sevens}\nend'))
+        # Other members, gaps and other instances, however many, change nothing.
+        told = ['error /maxLength: "ab" is longer than 1 character', "end"]
+        line = '{"draft":7,*"schema":{*"maxLength":1},"instance":I}'
+        for gap, inner, instance in ((" ", "", '"ab"'), ("", '"x":1,', '"ab"'), ("", " ", '"ab"'), ("", "", None)):
+            first, second, third = line.replace("I", instance or "[").split("*")
+            parts = [first, [gap, times], second, [inner, times], third]
+            if instance is None:
+                parts = [first + second + third.removesuffix("}"), ["7,", times], "7]}"]
+            yield made(compact({"input": parts}), ["valid", "end"] if instance is None else told)
+
+
+def rows_by_options():
+    """Whatever the options and the draft are, a row of the name counts before a built-in format."""
+    lists = ([["date", "none"]], [["uuid", "none"]], [["custom", "even"]], [["x", "all"], ["custom", "none"], ["date",
+    "all"]])
+    for draft, name, options, rows in product(DRAFTS, ("date", "uuid", "custom"), OPTIONS, lists):
+        yield asked(draft, {"format": name}, ["x"], formats=rows, **options)
+    for draft, options, rows in product((7, 202012), OPTIONS, lists[:2]):
+        yield asked(draft, {"format": "date", "maxLength": 9}, formats=rows, keyword="format", **options)
+        yield asked(draft, {"format": "date", "maxLength": 9}, formats=rows, left_out=["format"], **options)
+
+
+def content_by_options():
+    """Media types and encodings in pairs: known, registered, switched off, unknown, malformed or left out."""
+    lists = {"media_types": [["m", "even"]], "codecs": [["c", "plain"]]}
+    left_out = ((), ("contentMediaType",), ("contentEncoding",), ("contentMediaType", "contentEncoding"))
+    off = {"json_media_type": False, "without_codecs": ["base64"]}
+    for media_type, encoding in product((None, JSON, "m", "x", 5), (None, "base64", "base16", "c", "y", 5)):
+        schema = {"contentMediaType": media_type, "contentEncoding": encoding}
+        schema = {keyword: value for keyword, value in schema.items() if value is not None}
+        texts = ["!", "e30=", "7B", "{}"] if encoding in ("base64", "base16") else ["!", "{}"]
+        for draft, names, more in product((4, 6, 7, 202012), left_out, ({}, off)):
+            if draft in (6, 7) or not more:
+                yield asked(draft, schema, texts if draft == 7 else texts[:1], **lists, **more, left_out=list(names))
+        for draft, keyword in product((6, 7), schema):
+            yield asked(draft, schema, keyword=keyword, **lists, **off)
+
+
+def limits_left_out():
+    """Good and bad limits, each left out or not, beside a format and alone."""
+    for least, greatest, name in product((None, 2, -1, "x"), (None, 1, -1, "x"), (None, "ipv4")):
+        schema = {keyword: it for keyword, it in (("minLength", least), ("maxLength", greatest), ("format", name))
+                  if it is not None}
+        for names in ((), ("minLength",), ("maxLength",), ("minLength", "maxLength")):
+            yield asked(7, schema, ["x", ""], left_out=list(names))
+            for keyword in ("minLength", "maxLength"):
+                yield asked(7, schema, keyword=keyword, left_out=list(names))
+    for first, last in combinations(KEYWORDS, 2):
+        for draft, name in product((7, 202012), (first, last)):
+            schema = {"contentMediaType": JSON, first: BAD[first], last: BAD[last]}
+            yield asked(draft, schema, left_out=[name])
+
+
+# What other notations put around an encoding or a JSON text. It is no part of either.
+AROUND_ENCODINGS = (("data:application/json;base64,", ""), ("data:;base64,", ""), ("data:,", ""), ("base64:", ""),
+("base64,", ""),
+                    ("b64:", ""), ("0x", ""), ("0X", ""), ("#", ""), ("\\x", ""), ("h'", "'"), ("b'", "'"), ('"', '"'),
+                    ("'", "'"), ("<~", "~>"), ("=?utf-8?B?", "?="), ("-----BEGIN X-----\n", "\n-----END X-----"),
+                    ("\ufeff", ""), (" ", ""), ("", " "), ("\n", ""), ("", "\r\n"), ("", "\0"), ("", "="), ("", "A"),
+                    ("", "%3D"), ("", "."), ("", "\u200b"), ("(", ")"), ("<", ">"), ("{", "}"), ("z", ""), ("m", ""),
+                    ("f", ""), ("base16:", ""), ("urn:x:", ""), ("", "/"), ("", ","), (",", ""), ("-", ""), ("+", ""),
+                    ("", "\u00ad"), ("sha256-", ""), ("Basic ", ""), ("Bearer ", ""))
+AROUND_JSON = (("```json\n", "\n```"), ("```", "```"), ("callback(", ")"), ("callback(", ");"), ("(", ")"), (")]}',\n",
+""),
+               ("while(1);", ""), ("\x1e", "\n"), ("data: ", "\n\n"), ("", ","), ("", ";"), (",", ""), ("", "\n{}"),
+               ("", "{}"), ("// x\n", ""), ("/* x */", ""), ("", " // x"), ("# x\n", ""), ("", "# x"), ("var x = ",
+               ";"), ("x=", ""), ("\ufeff", ""), ("\x0c", ""), ("", "\x0b"), ("\u00a0", ""), ("", "\u2028"), ("\u3000",
+               ""), ("", "\0"), ("", "\x1a"), ("---\n", ""), ("<!--", "-->"), ("<", ">"), ("'", "'"), ("`", "`"), ("0",
+               ""), ("", "0"), ("+", ""), ("$", ""), ("return ", ""))
+
+
+def notations_around():
+    """Nothing stands around an encoding (RFC 4648), and white space alone around a JSON text (RFC 8259, section 2)."""
+    for codec, encoder in ENCODERS.items():
+        encoded = encoder(b"{}").decode()
+        texts = [before + encoded + behind for before, behind in AROUND_ENCODINGS]
+        for draft in (6, 7):
+            yield asked(draft, {"contentEncoding": codec}, texts)
+        yield asked(7, {"contentMediaType": JSON, "contentEncoding": codec}, texts)
+        texts = [encoder((before + "{}" + behind).encode()).decode() for before, behind in AROUND_JSON]
+        yield asked(7, {"contentMediaType": JSON, "contentEncoding": codec}, texts)
+    inside = ("{}", "[1]", '"a"', "null")
+    texts = [before + it + behind for before, behind in AROUND_JSON for it in inside]
+    for draft in (6, 7):
+        yield asked(draft, {"contentMediaType": JSON}, texts)
+    for text in texts[::4]:
+        yield requested(7, {"contentMediaType": JSON}, text)
+    spaces = [front + "{}" + tail for front, tail in product(("", " ", "\t", "\n", "\r", "\r\n", " \n\t\r "), repeat=2)]
+    yield asked(7, {"contentMediaType": JSON}, spaces)
+    for depth in (2, 63):
+        for begin, inner, end in (("[", "", "]"), ('{"a":', "1", "}"), ('[{"a":', "1", "}]")):
+            yield asked(7, {"contentMediaType": JSON}, [begin * depth + inner + end * depth, begin * depth + inner])
+
+
+def names_of_other_keywords():
+    """A name counts at its own keyword alone: a row in its own list, and what is built in at its own keyword."""
+    keywords = {"formats": "format", "media_types": "contentMediaType", "codecs": "contentEncoding"}
+    scripts = {"formats": "none", "media_types": "none", "codecs": "bytes"}
+    for draft, there, size in product((6, 7, 202012), combinations([*keywords, None], 2), (1, 2)):
+        lists = {it: [["x", "all" if it != "codecs" else "plain"]] * (size - 1) + [["n", scripts[it]]]
+                 for it in there if it is not None}
+        for some in ({"format": "n"}, {"contentMediaType": "n"}, {"contentEncoding": "n"}, {"pattern": "n"},
+                     {"contentMediaType": "n", "contentEncoding": "n"}, {"format": "n", "contentMediaType": "n"},
+                     {"contentMediaType": JSON, "contentEncoding": "n"},
+                     {"contentMediaType": "n", "contentEncoding": "base16"}):
+            if "pattern" not in some or draft == 7:
+                yield asked(draft, some, ["ab"], validate_formats=True, **lists)
+    for name in (*ENCODERS, *FORMAT_NAMES, *KEYWORDS, *MEMBERS, JSON):
+        for keyword in keywords.values():
+            known = ENCODERS if keyword == "contentEncoding" else FORMAT_NAMES if keyword == "format" else (JSON,)
+            if name not in known:
+                yield asked(7, {keyword: name}, ["!"], ignore_unknown_formats=False)
+                yield requested(6, {keyword: name}, "!")
+
+
+def values_by_options():
+    """What an option says of one keyword it says of no other: values of each shape under each option alone."""
+    alone = ({"validate_formats": False}, {"validate_formats": True}, {"ignore_unknown_formats": False},
+             {"formats_by_dialect": True}, {"json_media_type": False}, {"without_codecs": list(ENCODERS)})
+    for draft, keyword, more in product((4, 7, 202012), KEYWORDS, alone):
+        beside = {"contentMediaType": JSON} if keyword in ("contentEncoding", "contentSchema") else {}
+        for value in (RIGHT[keyword], None, True, 5, "x", {}, parsed("[1.5]")):
+            yield asked(draft, {**beside, keyword: value}, ["!"] if value == RIGHT[keyword] else [], **more)
+        left_out = [it for it in KEYWORDS if it != keyword]
+        yield asked(draft, {**RIGHT, keyword: BAD[keyword]}, **more, left_out=left_out)
+        if draft != 4:
+            yield asked(draft, {**beside, "contentEncoding": "base64", keyword: RIGHT[keyword]}, ["!", "7B"], **more)
+
+
+def lines_after_lines():
+    """Nothing of a line stays for the next one: what that leaves out is missing, or as it is without it."""
+    every = {**RIGHT_MEMBERS, "schema": {"format": "uuid", "maxLength": 1}, "instance": "xx"}
+    few = {"draft": 202012, "schema": {"pattern": "^a", "minLength": 3}, "instance": "b"}
+    for name in MEMBERS:
+        without, other = ({it: line[it] for it in line if it != name} for line in (every, few))
+        yield lined(every, without, few, without, other, every)
+        yield lined((every, 17), without, every, other, without)
+        yield lined((few, 17), other, without, few, other)
+        for value in (None, parsed("[]"), parsed("{}"), "x"):
+            yield lined(every, {**few, name: value}, other, {**every, name: value}, without, few)
+    for first, second in product(({}, {"validate_formats": True}, {"validate_formats": False},
+                                  {"ignore_unknown_formats": False}, {"fold": True}), repeat=2):
+        lines = [{"draft": draft, "schema": {"format": "date", "maxLength": 9}, "instance": "x", **more}
+                 for draft in (7, 202012) for more in (first, second, {})]
+        yield lined(*lines, *lines[::-1])
+    for keyword, other in product(KEYWORDS, repeat=2):
+        lines = [{"draft": draft, "schema": {it: RIGHT[it]}, "instance": "!"}
+                 for draft in (7, 202012) for it in (keyword, other)]
+        bad = {**lines[0], "schema": {keyword: BAD[keyword]}}
+        yield lined(*lines, {**lines[0], "schema": {}}, bad, *lines[::-1])
+
+
+class Lot:
+    """Draws that are the same each time, whatever Python draws them."""
+
+    def __init__(self):
+        self.state = 1
+
+    def draw(self, *choices):
+        """One of these."""
+        self.state = (self.state * 6364136223846793005 + 1442695040888963407) % 2 ** 64
+        return choices[(self.state >> 33) % len(choices)]
+
+
+# What an object may have at each keyword, some of it more than once, so that few objects are refused.
+DRAWN = {
+    "contentMediaType": 3 * (None, JSON, "m") + ("x", "", JSON, 5),
+    "contentEncoding": 3 * (None, "base64", "base16", "c") + ("y", "", 5),
+    "contentSchema": 4 * (None, True) + ({}, parsed("[1.5]")),
+    "format": 4 * (None, "date", "uuid", "custom") + ("", 5), "minLength": 4 * (None, 1, 2, 3) + (0, -1),
+    "maxLength": 4 * (None, 1, 2, 9) + (0, "x"), "pattern": 4 * (None, "^a", "^(x|ab)$", "z+") + (r"^\S*$", "(", 7)}
+LISTS_DRAWN = {
+    "formats": ([["date", "none"]], [["custom", "even"], ["date", "all"]], [["uuid", "all"], ["", "none"]]),
+    "media_types": ([["m", "even"]], [[JSON, "none"], ["m", "all"]], [["x", "none"], ["", "even"]]),
+    "codecs": ([["c", "plain"]], [["base64", "odd"], ["c", "bytes"]], [["base16", "plain"], ["y", "odd"]])}
+
+
+def drawn_schema(lot):
+    """An object by lot, and texts of which the tables of formats say what they are."""
+    schema = {keyword: value for keyword in KEYWORDS if (value := lot.draw(*DRAWN[keyword])) is not None}
+    texts = ["x", ""] if schema.get("format") == "uuid" else ["x", "", "7B", "ab", "!"]
+    return schema, texts
+
+
+def everything_together():
+    """Keywords, lists, options, places and what is left out, all drawn by lot: what is said of each is said of all."""
+    lot = Lot()
+    for number in range(900):
+        schema, texts = drawn_schema(lot)
+        more = {name: it for name in ("validate_formats", "ignore_unknown_formats", "formats_by_dialect")
+                if (it := lot.draw(None, None, True, False)) is not None}
+        more |= {name: rows for name, some in LISTS_DRAWN.items() if (rows := lot.draw(None, *some)) is not None}
+        more |= lot.draw({}, {}, {"json_media_type": False}, {"without_codecs": ["base64"]},
+                         {"without_codecs": ["base16"]},
+                         {"json_media_type": False, "without_codecs": ["base16", "base64"]})
+        if left_out := [keyword for keyword in KEYWORDS if lot.draw(False, False, False, False, True)]:
+            more["left_out"] = left_out
+        if schema.get("pattern") == "z+":
+            more["patterns"] = [["z+", "x", "match"], ["z+", "ab", "failed"], ["z+", "7B", "backtracking"]]
+        more |= lot.draw({}, {}, {}, {}, {}, placed(1))
+        draft = lot.draw(*DRAFTS)
+        if number % 5 == 4 and schema:
+            more["keyword"] = lot.draw(*schema)
+        yield asked(draft, schema, [*texts[:lot.draw(2, 3, 5)], 5], **more)
+    for _ in range(300):
+        schema, texts = drawn_schema(lot)
+        more = {name: it for name in ("validate_formats", "ignore_unknown_formats", "fold")
+                if (it := lot.draw(None, True, False)) is not None}
+        yield requested(lot.draw(*DRAFTS), schema, lot.draw(*texts, 5), **more)
+
+
 SECTIONS = (
     ("values of each shape", values_of_each_shape), ("values beside a media type", values_beside_a_media_type),
     ("values that nest", deep_values),
     ("absent keywords", absent_keywords), ("instances of each type", instances_of_each_type),
     ("names one letter off", other_names), ("names of formats one letter off", other_format_names),
-    ("formats by options", formats_by_options), ("texts of formats", texts_of_formats),
-    ("registered formats", registered_formats), ("names of rows", registered_names),
-    ("folding by windows", folding_by_windows),
+    ("formats by options", formats_by_options), ("texts of formats", texts_of_formats), ("registered formats",
+    registered_formats), ("names of rows", registered_names), ("folding by windows", folding_by_windows),
     ("folding by lengths alone", folding_by_lengths_alone), ("folding beside others", folding_beside_others),
-    ("pointers", pointers), ("long names", long_names),
-    ("texts at each bound", texts_at_bounds), ("characters not seen", characters_not_seen),
-    ("ends that checks see", ends_that_checks_see),
-    ("limits of 64 bits", limits_of_64_bits),
-    ("good limits beside bad ones", good_beside_bad_limits), ("content by product", content_by_product),
-    ("other keywords by the options of formats", keywords_by_options),
-    ("entries of content", entries_of_content), ("texts of encodings", texts_of_encodings),
-    ("names of content one letter off", other_names_of_content), ("content over built-ins", content_over_built_ins),
-    ("schemas beside media types", schemas_beside_media_types), ("patterns", patterns),
-    ("texts of each kind", texts_of_each_kind), ("content of each kind", content_of_each_kind),
-    ("first refusals", first_refusals), ("keywords left out", keywords_left_out),
-    ("errors together", errors_together), ("places", places), ("places of each kind", places_of_each_kind),
-    ("many of one kind", many), ("texts in errors", texts_in_errors),
-    ("lists in use", lists_in_use), ("parts of lists", parts_of_lists), ("numbers that are no drafts", no_drafts),
-    ("requests", requests), ("lines of each shape", lines_of_each_shape),
-    ("members and keywords that stand twice", members_that_stand_twice), ("names with escapes", names_with_escapes),
-    ("values in requests", values_in_requests), ("other members", other_members),
-    ("members that nest", deep_members), ("members of schema objects that nest", deep_members_of_schemas),
-    ("lines with a bound", bounded_lines),
-    ("each character of ASCII", controls), ("folds told", folds_told),
-    ("lines that share a schema", lines_that_share_a_schema),
-    ("texts of a shared schema", texts_of_a_shared_schema),
-    ("texts behind each front", texts_behind_each_front), ("lines told by their ends", lines_told_by_their_ends),
+    ("pointers", pointers), ("long names", long_names), ("texts at each bound", texts_at_bounds),
+    ("characters not seen", characters_not_seen), ("ends that checks see", ends_that_checks_see), ("limits of 64 bits",
+    limits_of_64_bits), ("good limits beside bad ones", good_beside_bad_limits), ("content by product",
+    content_by_product), ("other keywords by the options of formats", keywords_by_options), ("entries of content",
+    entries_of_content), ("texts of encodings", texts_of_encodings), ("names of content one letter off",
+    other_names_of_content), ("content over built-ins", content_over_built_ins), ("schemas beside media types",
+    schemas_beside_media_types), ("patterns", patterns), ("texts of each kind", texts_of_each_kind),
+    ("content of each kind", content_of_each_kind), ("first refusals", first_refusals), ("keywords left out",
+    keywords_left_out), ("errors together", errors_together), ("places", places), ("places of each kind",
+    places_of_each_kind), ("many of one kind", many), ("texts in errors", texts_in_errors), ("lists in use",
+    lists_in_use), ("parts of lists", parts_of_lists), ("numbers that are no drafts", no_drafts), ("requests",
+    requests), ("lines of each shape", lines_of_each_shape), ("members and keywords that stand twice",
+    members_that_stand_twice), ("names with escapes", names_with_escapes), ("values in requests", values_in_requests),
+    ("other members", other_members), ("members that nest", deep_members), ("members of schema objects that nest",
+    deep_members_of_schemas), ("lines with a bound", bounded_lines), ("each character of ASCII", controls),
+    ("folds told", folds_told), ("lines that share a schema", lines_that_share_a_schema), ("texts of a shared schema",
+    texts_of_a_shared_schema), ("texts behind each front", texts_behind_each_front), ("lines told by their ends",
+    lines_told_by_their_ends), ("others beside the keywords", others_beside), ("names one letter off in requests",
+    other_names_in_requests), ("names of other standards", other_standards_names), ("objects that stand for values",
+    objects_for_values), ("patterns of other languages", patterns_of_other_languages),
+    ("left out, and refused elsewhere", refused_elsewhere), ("bytes that are encoded", decoded_bytes),
+    ("places with each character", places_with_each_character), ("characters as they are shown", characters_shown),
+    ("signs in texts", signs_in_texts), ("lines in other forms", lines_in_other_forms),
+    ("texts that spell something elsewhere", texts_spelt_otherwise),
+    ("segments of other paths", segments_of_others), ("names that look alike", names_looking_alike),
+    ("schema objects within others", schemas_within), ("drafts as they are written", drafts_as_they_are_written),
+    ("long ones", long_ones), ("rows by options", rows_by_options), ("content by options", content_by_options),
+    ("limits that are left out", limits_left_out), ("other notations around content", notations_around),
+    ("names of other keywords", names_of_other_keywords), ("values by options", values_by_options),
+    ("lines after lines", lines_after_lines),
+    ("everything together, by lot", everything_together),
 )
 
 

@@ -1,5 +1,6 @@
 #!/usr/bin/env python3
-"""Makes the rows of crates/strkw_test_files that are products: of the members of a plan, and of places of documents.
+"""Makes the rows of crates/strkw_test_files that are products: of the members of a plan, of what is wrong with two of
+them, of names that are near, of texts that messages show, of places of documents, and of CSV files (file_rows.py).
 
     python3 tools/plan_rows.py           whether the rows in `stdin` and `stdout` are those that are made here
     python3 tools/plan_rows.py write     writes them: they stand from the comment TITLE on, before those of
@@ -11,8 +12,10 @@ with a plan is told, and what a place and an asterisk stand for in a document. N
 import json
 import re
 import sys
+from itertools import combinations, product
 
-from vocabulary import ROWS, TITLE as BEHIND
+import file_rows
+from vocabulary import ROWS, TITLE as BEHIND, edits_of, is_near
 
 TITLE = "# by tools/plan_rows.py"
 MOST = 2 ** 64 - 1
@@ -38,6 +41,19 @@ DOCUMENTS = ({}, {"a": None}, {"a": False}, {"a": 0}, {"a": ""}, {"a": "x"}, {"a
 # Members that are the plan's own, of which each place and document has the first four or the first and two others.
 OWN_OF_PLACES = ({}, {"optional": True}, {"string": True}, {"optional": True, "string": True},
                  {"optional": False, "string": False})
+WHOLE = ("the schema at {} is refused at /maxLength: "
+         "the limit is not a non-negative whole number of 64 bits")
+# What is wrong with a member of a schema object, by the member: its value, and what is told of it at a place.
+WRONG_MEMBERS = {
+    "enum": ("[]", 'keyword "enum" at {} is not checked here: `"ignore": ["enum"]` lets it pass'),
+    "maxLength": ("-1", None),
+    "zz": ("1", 'unknown keyword "zz" at {}'),
+}
+WRONG_OWN = {"columns": {"empty": ("1", '"empty" at {} is not "skip"')},
+             "places": {name: ("1", f'"{name}" at {{}} is neither true nor false') for name in OWN["places"]}}
+# Characters that stand by their code in base 16, of the categories Cc, Cf, Zl and Zp, and some that stand as they are.
+HIDDEN = ("\u0085", "\u00ad", "\u2028", "\u2029", "\u202e", "\U000e0001")
+SHOWN = ("\u00a0", "\u3000", "\ue000", "\u0378")
 
 
 class Number(str):
@@ -157,25 +173,173 @@ def step(at, there, token):
 
 
 def messages(place, own, document):
-    """The messages about a place by `"maxLength": 1` and members that are the plan's own."""
+    """The messages about a place by a limit, `"maxLength": 1` or another, and members that are the plan's own."""
+    most, least = (1, 0) if "minLength" not in own else (MOST, own["minLength"])
     for at, there in spots(place, document):
         if not there:
             if not own.get("optional"):
                 yield f"{at}: missing"
         elif isinstance(there[0], str):
-            if len(there[0]) > 1:
+            if len(there[0]) > most:
                 yield f'{at}: /maxLength: "{there[0]}" is longer than 1 character'
+            if len(there[0]) < least:
+                yield f'{at}: /minLength: "{there[0]}" is shorter than 1 character'
         elif own.get("string"):
             yield f"{at}: not a string"
 
 
 def of_place(place, own, document):
     """The row of a place in a document."""
-    schema, place_text, document_text = (json.dumps(it, separators=(",", ":")) for it in
-                                         ({"maxLength": 1, **own}, place, document))
+    schema = own if "minLength" in own else {"maxLength": 1, **own}
+    schema, place_text, document_text = (json.dumps(it, separators=(",", ":")) for it in (schema, place, document))
     told = [*messages(place, own, document)]
     return [f'{{"plan":{{"draft":7,"places":{{{place_text}:{schema}}}}},"document":{document_text}}}', *told,
             f"{len(told)} errors"]
+
+
+# ---- what is wrong with two members: the first is told, in the order of docs/CALLING.md
+
+def faults(kind):
+    """What may be wrong with a plan, in that order: its rank, a member, its value or none, and what is told."""
+    place = f"/{kind}/{escaped(json.loads(SCHEMAS[kind]).popitem()[0])}"
+    no_plan = f"the plan is to be an object with `draft` (4, 6, 7, 201909 or 202012) and `{kind}`, an object"
+    no_limits, limit = "`limits` is to be an object of whole numbers", LIMITS[kind][0]
+    name = json.dumps(json.loads(SCHEMAS[kind]).popitem()[0])
+    yield 1, "zz", "1", 'unknown member "zz" of the plan'
+    yield from ((2, "limits", value, words) for value, words in (
+        ("[]", no_limits), ("null", no_limits), ('{"zz":1}', 'unknown limit "zz" of the plan'),
+        (f'{{"{limit}":-1}}', f'the limit "{limit}" is to be a whole number of 64 bits')))
+    yield from ((3, member, value, no_plan) for member in ("draft", kind) for value in (None, "null", "[]"))
+    yield from ((4, "ignore", value, "`ignore` is to be an array of names of keywords") for value in ("null", "[1]"))
+    if kind == "columns":
+        yield 5, "duplicates", "null", '`duplicates` is to be "each", or left out'
+        yield from ((6, "delimiter", value, "`delimiter` is to be one character of ASCII, and no quote, CR or LF")
+                    for value in ("null", '";;"'))
+    yield 7, kind, "{}", f"`{kind}` is empty, so that nothing would be checked"
+    yield 8, kind, f"{{{name}:1}}", f"the schema at {place} is no object"
+    for member, (value, words) in {**WRONG_MEMBERS, **WRONG_OWN[kind]}.items():
+        yield 9 if words is None else 8, kind, f'{{{name}:{{"{member}":{value}}}}}', (words or WHOLE).format(place)
+
+
+def of_pair(kind, first, second):
+    """The row of a plan with which two things are wrong."""
+    members = {"draft": "7", kind: SCHEMAS[kind], **{member: value for _, member, value, _ in (first, second)}}
+    text = ",".join(f'"{name}":{value}' for name, value in members.items() if value is not None)
+    return [f'{{"plan":{{{text}}},{INPUTS[kind]}}}', min(first, second, key=lambda fault: fault[0])[3]]
+
+
+def of_schemas(kind, schemas):
+    """The row of a plan whose schema objects have these wrong members, by their names. A refusal is told last."""
+    wrong = {**WRONG_MEMBERS, **WRONG_OWN[kind]}
+    text = ",".join(f'"{name}":{{' + ",".join(f'"{it}":{wrong[it][0]}' for it in members) + "}"
+                    for name, members in schemas.items())
+    told = [(wrong[it][1] or WHOLE).format(f"/{kind}/{escaped(name)}") for last in (False, True)
+            for name in by_bytes(schemas) for it in by_bytes(schemas[name]) if (wrong[it][1] is None) == last]
+    return [f'{{"plan":{{"draft":7,"{kind}":{{{text}}}}},{INPUTS[kind]}}}', told[0]]
+
+
+def of_two(kind):
+    """The rows of a plan of a kind with which two things are wrong."""
+    for first, second in combinations(faults(kind), 2):
+        if first[1] != second[1]:
+            yield of_pair(kind, first, second)
+    wrong = [*WRONG_MEMBERS, *WRONG_OWN[kind]]
+    names = ("a", "b") if kind == "columns" else ("/a", "/b")
+    for pair in product(wrong, repeat=2):
+        yield of_schemas(kind, dict(zip(names, ([it] for it in pair))))
+        yield of_schemas(kind, dict(zip(names[::-1], ([it] for it in pair))))
+    for pair in combinations(wrong, 2):
+        yield of_schemas(kind, {names[0]: pair})
+
+
+# ---- names that are near
+
+def of_near(kind, name, told, known, **members):
+    """The row of a plan with a name that is none of those that are known, and the one of these that is near."""
+    near = [other for other in known if is_near(name, other)]
+    meant = f': did you mean "{near[0]}"?' if near else ""
+    members = {"draft": "7", kind: SCHEMAS[kind], **members}
+    text = ",".join(f'"{member}":{value}' for member, value in members.items())
+    if len(near) > 1 or name in known:
+        return []
+    return [f'{{"plan":{{{text}}},{INPUTS[kind]}}}', told.format(name) + meant]
+
+
+def of_names(kind):
+    """The rows of names one edit away from members, limits and own members of plans of either kind."""
+    place = json.loads(SCHEMAS[kind]).popitem()[0]
+    for table, told, named in (
+            (MEMBERS, 'unknown member "{}" of the plan', lambda name: {name: "1"}),
+            (LIMITS, 'unknown limit "{}" of the plan', lambda name: {"limits": f'{{"{name}":1}}'}),
+            (OWN, f'unknown keyword "{{}}" at /{kind}/{escaped(place)}',
+             lambda name: {kind: f'{{"{place}":{{"{name}":true}}}}'})):
+        every = {name: None for names in table.values() for name in names}
+        for other in every:
+            edits = {edits_of(other, (at + len(other)) % 4, at): None for at in range(len(other))}
+            for name in (*edits, other):
+                yield of_near(kind, name, told, table[kind], **named(name))
+
+
+# ---- texts that messages show
+
+def shown(text):
+    """A text as messages show it (docs/PROGRAMS.md)."""
+    return "".join(f"\\u{{{ord(c):x}}}" if c in HIDDEN else c for c in text)
+
+
+def of_text(kind, plan, given, *told):
+    """The row of a plan whose names or values have a character, with a document or the text of a file."""
+    schemas = plan.get(kind, {"b": {}} if kind == "columns" else {"/b": {}})
+    members = {"plan": {"draft": 7, **plan, kind: schemas}, "file" if kind == "columns" else "document": given}
+    return [json.dumps(members, ensure_ascii=False, separators=(",", ":")), *map(shown, told)]
+
+
+def of_columns_shown(c):
+    """The rows in which a character stands in each text of the faults and messages about columns."""
+    name, place = f"a{c}", f"/columns/a{c}"
+    refused = f"the schema at {place} is refused at "
+    for schema, words in ((1, f"the schema at {place} is no object"),
+                          ({"k" + c: 1}, f'unknown keyword "k{c}" at {place}'),
+                          ({"enum": 1}, WRONG_MEMBERS["enum"][1].format(place)),
+                          ({"empty": 1}, f'"empty" at {place} is not "skip"'),
+                          ({"format": "x" + c}, f'{refused}/format: unknown format "x{c}"'),
+                          ({"pattern": "a+" + c}, f'{refused}/pattern: the pattern "a+{c}" is not taken'),
+                          ({"format": ["x" + c]}, f'{refused}/format: ["x{c}"] is not of type "string"')):
+        yield of_text("columns", {"columns": {name: schema}}, "", words)
+    yield of_text("columns", {"z" + c: 1}, "", f'unknown member "z{c}" of the plan')
+    yield of_text("columns", {"limits": {"z" + c: 1}}, "", f'unknown limit "z{c}" of the plan')
+    checks = {"columns": {name: {"maxLength": 1}}}
+    yield of_text("columns", checks, "b\n", f"the file has no column `{name}`")
+    yield of_text("columns", checks, f"{name},b{c},b{c}\n",
+                  f"the column `b{c}` stands twice in the first record: at 2 and 3")
+    yield of_text("columns", checks, f"{name}\nx{c}\n", f'2: {name}: /maxLength: "x{c}" is longer than 1 character',
+                  "1 records, 1 errors")
+    broken = json.dumps((name.encode() + b"\n\xff\n").decode("latin-1"))
+    yield [json.dumps({"plan": {"draft": 7, **checks}}, ensure_ascii=False, separators=(",", ":"))[:-1]
+           + f',"keep_going":true,"bytes":{broken}}}', shown(f"2: {name}: not UTF-8"), "1 records, 1 errors"]
+
+
+def of_places_shown(c):
+    """The rows in which a character stands in each text of the faults and messages about places."""
+    place, in_plan = f"/a{c}", f"/places/~1a{c}"
+    refused = f"the schema at {in_plan} is refused at "
+    for schema, words in ((1, f"the schema at {in_plan} is no object"),
+                          ({"k" + c: 1}, f'unknown keyword "k{c}" at {in_plan}'),
+                          ({"enum": 1}, WRONG_MEMBERS["enum"][1].format(in_plan)),
+                          ({"optional": 1}, f'"optional" at {in_plan} is neither true nor false'),
+                          ({"string": 1}, f'"string" at {in_plan} is neither true nor false'),
+                          ({"format": "x" + c}, f'{refused}/format: unknown format "x{c}"')):
+        yield of_text("places", {"places": {place: schema}}, {}, words)
+    yield of_text("places", {"z" + c: 1}, {}, f'unknown member "z{c}" of the plan')
+    yield of_text("places", {"places": {"a" + c: {}}}, {}, f"the place `a{c}` is no JSON pointer")
+    checks = {"string": True, "maxLength": 1}
+    for at, document in ((place, {f"a{c}": 1}), ("/*", {f"a{c}": 1}), ("/*/b", {f"a{c}": {"b": 1}})):
+        spot = place + at[2:] if at[1] == "*" else place
+        yield of_text("places", {"places": {at: checks}}, document, f"{spot}: not a string", "1 errors")
+    yield of_text("places", {"places": {place: checks}}, {f"a{c}": "x" + c},
+                  f'{place}: /maxLength: "x{c}" is longer than 1 character', "1 errors")
+    yield of_text("places", {"places": {place: checks}}, {}, f"{place}: missing", "1 errors")
+    yield of_text("places", {"places": {place + "/*": checks}}, {f"a{c}": 1}, f"{place}/*: missing", "1 errors")
 
 
 # ---- the rows
@@ -196,11 +360,26 @@ def lines():
         schemas = [f'{{"{name}":{value}}}' for name in members for value in VALUES]
         schemas += [value for value in VALUES if not value.startswith("{")]
         made += [line for schema in schemas for line in of_plan(kind, **{kind: f'{{"{place}":{schema}}}'})]
+    made.append("# `ignore` with values of which one or more are no strings, first and last")
+    made += [line for kind in MEMBERS for count in (2, 3) for values in product(('"x"', "null", "1"), repeat=count)
+             for line in of_plan(kind, ignore=f'[{",".join(values)}]')]
+    made.append("# two things that are wrong with a plan, of which the first is told")
+    made += [line for kind in MEMBERS for row in of_two(kind) for line in row]
+    made.append("# names one edit away from members, limits and own members, also from those of the other kind of plan")
+    made += [line for kind in MEMBERS for row in of_names(kind) for line in row]
+    made.append("# characters that do not show as themselves, and some that do, in each text of faults and messages")
+    made += [line for c in HIDDEN + SHOWN for row in (*of_columns_shown(c), *of_places_shown(c)) for line in row]
+    made += file_rows.lines()
     made.append("# places of each form in documents of each kind, with the members that are the plan's own")
     for number, place in enumerate(PLACES):
         for other, document in enumerate(DOCUMENTS):
             owns = OWN_OF_PLACES[:4] if (number + other) % 2 == 0 else OWN_OF_PLACES[::2]
             made += [line for own in owns for line in of_place(place, own, document)]
+    made.append("# empty texts at places, where the plan's own members pass over none of them")
+    made += [line for own in OWN_OF_PLACES for place, document in
+             product(("", "/a", "/*", "/a/*", "/*/*", "/a/0"),
+                     ({"a": ""}, {"a": [""]}, {"a": {"": "", "0": ""}}, "", [""]))
+             for line in of_place(place, {"minLength": 1, **own}, document)]
     return made
 
 

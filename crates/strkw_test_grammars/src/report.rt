@@ -1,10 +1,10 @@
-//! Nodes, numbers with a fraction, and the order of drafts.
+//! Nodes, numbers with a fraction, the order of drafts, and texts in errors and places.
 
 use crate::row::{found_at, items};
 use crate::tally::Tally;
 use serde_json::Value;
-use std::alloc::AllocError;
-use strkw_report::{Draft, Node, TextNode, char_count, holds_fraction};
+use std::alloc::{AllocError, Global};
+use strkw_report::{Draft, Failure, Location, Node, TextNode, char_count, holds_fraction};
 
 const DRAFTS: [Draft; 5] = [
     Draft::Draft4,
@@ -43,6 +43,34 @@ pub fn ask_nodes(row: &Value, tally: &mut Tally) -> Result<(), AllocError> {
         tally.count(is_expected, text.unwrap_or(""), "another node")?;
     }
     Ok(())
+}
+
+/// Whether a text has so many characters; `None` where the name is unknown.
+pub fn has_characters(of: &str, text: &str) -> Option<bool> {
+    match of {
+        "one character" => Some(char_count(text) == 1),
+        "33 characters" => Some(char_count(text) == 33),
+        _ => None,
+    }
+}
+
+/// Whether a text stands in an error as it is, between quotation marks: in one that is given, and in one appended.
+pub fn stands_in_errors(alloc: Global, text: &str) -> Result<bool, AllocError> {
+    let wanted = format!(in alloc; "\"{text}\" does not decode to UTF-8 text")?;
+    let given = Failure::FromUtf8.text(alloc, text)?;
+    let mut appended = Vec::new(alloc);
+    Failure::FromUtf8.push_text(text, &mut appended)?;
+    Ok(given.as_str() == wanted.as_str() && appended.as_slice() == wanted.as_bytes())
+}
+
+/// Whether a text stands in a place as it is, behind a slash: in one that is given, and in one appended.
+pub fn stands_in_places(alloc: Global, text: &str) -> Result<bool, AllocError> {
+    let wanted = format!(in alloc; "/{text}")?;
+    let root = Location::root(alloc);
+    let given = root.join(text)?;
+    let mut appended = Vec::new(alloc);
+    root.push_below(text, &mut appended)?;
+    Ok(given.as_str() == wanted.as_str() && appended.as_slice() == wanted.as_bytes())
 }
 
 /// The values of a row that hold a number which is kept neither as a `u64` nor as an `i64`, and those that hold none.

@@ -3,7 +3,7 @@
 use crate::ecma::repeat_parts;
 use crate::row::{elements, items, text};
 use crate::tally::Tally;
-use crate::{coding, ecma, label};
+use crate::{coding, ecma, label, report};
 use serde_json::Value;
 use std::alloc::{AllocError, Global};
 use strkw_ecma::is_valid_regex;
@@ -56,6 +56,9 @@ pub fn accepts(alloc: Global, of: &str, text: &str) -> Result<Option<bool>, Allo
         "u-label" => is_valid_u_label(alloc, text).map(Some),
         "idn-email" => is_valid_idn_email(alloc, text).map(Some),
         "json" => coding::is_media(alloc, text),
+        "one character" | "33 characters" => Ok(report::has_characters(of, text)),
+        "texts that stand in errors" => report::stands_in_errors(alloc, text).map(Some),
+        "texts that stand in places" => report::stands_in_places(alloc, text).map(Some),
         "patterns of ECMA-262" => Ok(ecma::is_taken(alloc, text)),
         "patterns of the whole of ECMA-262" => is_valid_regex(alloc, text).map(Some),
         "base64" | "base64url" | "base32" | "base32hex" | "base16" => {

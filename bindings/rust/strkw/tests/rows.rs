@@ -96,6 +96,45 @@ fn options_say_how_formats_are_checked() {
 }
 
 #[test]
+fn drafts_have_the_formats_and_the_content_keywords_that_they_name() {
+    let drafts = [Draft::Draft4, Draft::Draft6, Draft::Draft7, Draft::Draft201909, Draft::Draft202012];
+    // From which of the drafts on each is known.
+    for (format, first) in [("date", 0), ("json-pointer", 1), ("iri", 2), ("uuid", 3)] {
+        let object = format!(r#"{{"format": "{format}"}}"#);
+        for (place, draft) in drafts.into_iter().enumerate() {
+            let compiled = Schema::compile(draft, Options::default(), &object);
+            assert_eq!(compiled.is_ok(), first <= place, "{format} of {draft:?}");
+        }
+    }
+    // Draft 4 passes over it, drafts 6 and 7 check it, and the later ones note it.
+    for (draft, told) in drafts.into_iter().zip([(0, 0), (1, 0), (1, 0), (0, 1), (0, 1)]) {
+        let report = schema(draft, r#"{"contentEncoding": "base64"}"#).report("?").unwrap();
+        assert_eq!((report.errors.len(), report.notes.len()), told, "{draft:?}");
+    }
+}
+
+#[test]
+fn options_stand_beside_one_another() {
+    let unknown = r#"{"format": "no-format"}"#;
+    for bits in 0..8 {
+        let options = Options {
+            formats_as_draft: bits & 1 != 0,
+            ignore_unknown_formats: bits & 2 != 0,
+            companion_formats: bits & 4 != 0,
+        };
+        // What is not checked is not refused.
+        let is_taken = |draft| Schema::compile(draft, options, unknown).is_ok();
+        assert_eq!(is_taken(Draft::Draft7), options.ignore_unknown_formats, "{options:?}");
+        let passes = options.ignore_unknown_formats || options.formats_as_draft;
+        assert_eq!(is_taken(Draft::Draft202012), passes, "{options:?}");
+        let mail = Schema::compile(Draft::Draft7, options, r#"{"format": "email"}"#);
+        let judged = mail.map(|schema| schema.is_valid("nonsense").unwrap());
+        let passed = options.ignore_unknown_formats.then_some(true);
+        assert_eq!(judged.ok(), if options.companion_formats { Some(false) } else { passed }, "{options:?}");
+    }
+}
+
+#[test]
 fn refusals_are_told() {
     let compile = |object| Schema::compile(Draft::Draft7, Options::default(), object).map(|_| ());
     assert_eq!(compile("[]"), Err(CompileError::NoObject));

@@ -1,0 +1,201 @@
+"""The rows of crates/strkw_test_files that are products of CSV files: of names in a header, of fields in a record, of
+fields that are not UTF-8 or are passed over, of quotes, and of limits. tools/plan_rows.py writes them.
+
+What a row comes to is said here by docs/PROGRAMS.md and docs/CALLING.md, and by RFC 4180. Files are read here byte by
+byte. Nothing here is read off a program.
+"""
+import json
+from itertools import product
+
+MOST = 2 ** 64 - 1
+# Names of a header, of which some differ in case, in blanks or in nothing that shows.
+NAMES = ("", "a", "A", "a ", "b")
+# Fields as they stand in a file, one byte a character: each of them is not UTF-8, is empty, or has a blank or more.
+FIELDS = ("", '""', " ", "x", "xx", "\u00ff", "x\u00ff", "\u00c3\u00a9")
+OWN = ({}, {"empty": "skip"})
+KEYWORDS = ({"minLength": 1}, {"maxLength": 1}, {"minLength": 2, "maxLength": 0})
+# First records by which limits are tried, with and without quotes, doubled quotes and line ends in quotes.
+RECORDS = ("a", "abc", ",", ",,", "a,", ",a", "ab,c", "a,bc", '""', '"ab"', '"a""b"', '"a\n"', '"\nab"',
+           'a,"\n\r\nb",c', '"a\r\n,"', '"",""', '"ab"c', 'a"b', "\u00e9", "a,\u00e9b")
+# Line ends in front of a quote that stays open, of which each LF, CR LF and CR alone is one.
+ENDS = ("\n", "\r", "\r\n")
+
+
+def records_of(text):
+    """The records of a file without an open quote (RFC 4180, section 2; docs/PROGRAMS.md): each with its line, fields,
+    and for each byte the place of its field, or none where it parts two."""
+    at, line = 0, 1
+    while at < len(text):
+        if text[at] in "\r\n":
+            at, line = at + 2 if text[at: at + 2] == "\r\n" else at + 1, line + 1
+            continue
+        fields, counted, first = [], [], line
+        while True:
+            field = ""
+            if text[at: at + 1] == '"':
+                at += 1
+                while text[at] != '"' or text[at + 1: at + 2] == '"':
+                    at += text[at] == '"'
+                    line += text[at] == "\r" or text[at] == "\n" and text[at - 1] != "\r"
+                    field, counted, at = field + text[at], [*counted, len(fields)], at + 1
+                at += 1
+            while at < len(text) and text[at] not in ",\r\n":
+                field, counted, at = field + text[at], [*counted, len(fields)], at + 1
+            fields.append(field)
+            if text[at: at + 1] != ",":
+                break
+            counted, at = [*counted, None], at + 1
+        yield first, fields, counted
+
+
+def passed(line, counted, limits):
+    """The fault of the first byte of a record that passes a limit: where it passes both, it is told of the field."""
+    lengths = {}
+    for count, number in enumerate(counted, 1):
+        lengths[number] = lengths.get(number, 0) + 1
+        if number is not None and lengths[number] > limits.get("field", MOST):
+            return f"{line}: field {number + 1} is longer than {limits['field']} bytes"
+        if count > limits.get("record", MOST):
+            return f"{line}: the record is longer than {limits['record']} bytes"
+    return None
+
+
+def characters(field):
+    """How many characters a field has, or none where its bytes are not UTF-8."""
+    try:
+        return len(field.encode("latin-1").decode())
+    except UnicodeDecodeError:
+        return None
+
+
+def errors(line, name, schema, field):
+    """The messages about a field by limits of the number of its characters."""
+    count = characters(field)
+    if count is None:
+        yield f"{line}: {name}: not UTF-8"
+    elif field or schema.get("empty") != "skip":
+        shown = field.encode("latin-1").decode()
+        for keyword, word in (("minLength", "shorter"), ("maxLength", "longer")):
+            limit = schema.get(keyword, count)
+            if count < limit if word == "shorter" else limit < count:
+                noun = "character" if limit == 1 else "characters"
+                yield f'{line}: {name}: /{keyword}: "{shown}" is {word} than {limit} {noun}'
+
+
+def named(plan, names):
+    """What is wrong with the names of the columns."""
+    if len(names) > plan.get("limits", {}).get("columns", 10000):
+        return f"the first record has {len(names)} columns, more than {plan['limits']['columns']}"
+    missing = sorted(set(plan["columns"]) - set(names))
+    if missing:
+        return f"the file has no column `{missing[0]}`"
+    twice = next((place for place, name in enumerate(names) if name in names[:place]), None)
+    if twice is None or plan.get("duplicates") == "each":
+        return None
+    return (f"the column `{names[twice]}` stands twice in the first record: "
+            f"at {names.index(names[twice]) + 1} and {twice + 1}")
+
+
+def checked(plan, row, line, names, fields):
+    """The messages about a record, and the fault that ends the check there."""
+    columns = plan["columns"]
+    broken = [place for place, (name, field) in enumerate(zip(names, fields), 1)
+              if name in columns and characters(field) is None]
+    if len(fields) != len(names):
+        return [], f"{line}: a record of {len(fields)} fields, and the first record has {len(names)}"
+    if broken and not row.get("keep_going"):
+        return [], f"{line}: field {broken[0]} is not UTF-8"
+    return [error for name, field in zip(names, fields) if name in columns
+            for error in errors(line, name, columns[name], field)], None
+
+
+def told(plan, row, text):
+    """The lines that stand below a row."""
+    lines, names, count = [], None, 0
+    for line, fields, counted in records_of(text):
+        fault = passed(line, counted, plan.get("limits", {}))
+        if fault:
+            return [*lines, fault]
+        if names is None:
+            is_header = row.get("header", True)
+            names = fields if is_header else [str(number) for number in range(1, len(fields) + 1)]
+            fault = named(plan, names)
+            if fault:
+                return [fault]
+            if is_header:
+                continue
+        more, fault = checked(plan, row, line, names, fields)
+        if fault:
+            return [*lines, fault]
+        lines, count = lines + more, count + 1
+    return [*lines, f"{count} records, {len(lines)} errors"]
+
+
+def of_file(plan, text, **row):
+    """The row of a file, one byte a character, and what it comes to."""
+    row = {name: value for name, value in row.items() if (name, value) != ("keep_going", False)}
+    members = {"plan": {"draft": 7, **plan}, **row, "bytes": text}
+    return [json.dumps(members, separators=(",", ":")), *told(plan, row, text)]
+
+
+def of_open_quote(front):
+    """The row of a quote that stays open behind lines."""
+    text = f'a{front}"x'
+    line = 1 + len(front.replace("\r\n", "\n").replace("\r", "\n"))
+    plan = {"draft": 7, "columns": {"a": {}}}
+    return [json.dumps({"plan": plan, "bytes": text}, separators=(",", ":")),
+            f"{line}: a quote that begins here is not closed"]
+
+
+def headers():
+    """Names twice, missing ones and too many, of which the first that is wrong is told."""
+    for names in (*product(NAMES, repeat=2), *product(NAMES, repeat=3)):
+        text = ",".join(names) + "\n"
+        yield of_file({"columns": {"a": {}}}, text)
+        if len(names) == 3 and len(set(names)) < 3:
+            yield of_file({"columns": {"a": {}}, "duplicates": "each"}, text)
+            yield of_file({"columns": {"a": {}}, "limits": {"columns": 2}}, text)
+
+
+def widths():
+    """Records of fewer fields than the first, of as many and of more, be they empty or not."""
+    for width, count, field, other in product((1, 2, 3), (1, 2, 3, 4), ("", '""', "x"), ("", '""', "x")):
+        if count == 1 and field:
+            continue
+        text = ",".join([other] + [field] * (count - 1)) + "\n"
+        yield of_file({"columns": {"a": {}}}, ",".join("abc"[:width]) + "\nx" + ",x" * (width - 1) + "\n" + text)
+        yield of_file({"columns": {"1": {}}}, "x" + ",x" * (width - 1) + "\n" + text, header=False)
+
+
+def fields():
+    """Fields that are not UTF-8, empty or longer, in a column that is checked and in one that is not."""
+    for own, keywords, field, keep_going in product(OWN, KEYWORDS, FIELDS, (False, True)):
+        schema = {**keywords, **own}
+        yield of_file({"columns": {"a": schema}}, f"a,b\n{field},x\n{field},\u00ff\n", keep_going=keep_going)
+    for broken, names, keep_going in product(product(("x", "\u00ff"), repeat=3),
+                                             ("a", "b", "c", "ab", "bc", "ac", "abc"), (False, True)):
+        columns = {name: {"maxLength": 0} for name in names}
+        yield of_file({"columns": columns}, "a,b,c\n" + ",".join(broken) + "\n", keep_going=keep_going)
+
+
+def limits():
+    """Limits of a record and of a field, and records of which the first byte that passes one is told."""
+    for record, field, text in product((None, 0, 1, 2, 3), (None, 0, 1, 2), RECORDS):
+        given = {name: limit for name, limit in (("record", record), ("field", field)) if limit is not None}
+        yield of_file({"columns": {"1": {}}, "limits": given}, text + "\n", header=False)
+
+
+def lines():
+    """All lines of these rows."""
+    made = ["# names in the first record: too many, a missing one and one twice are told in this order"]
+    made += [line for row in headers() for line in row]
+    made.append("# records of fewer and more fields than the first, of which the last ones are empty or not")
+    made += [line for row in widths() for line in row]
+    made.append("# fields that are not UTF-8, empty or longer, where the check keeps going or ends")
+    made += [line for row in fields() for line in row]
+    made.append("# limits of a record and of a field: the first byte that passes one is told of, and the field first")
+    made += [line for row in limits() for line in row]
+    made.append("# a quote that stays open, behind line ends of each kind and two of them")
+    made += [line for front in ("".join(ends) for count in (1, 2) for ends in product(ENDS, repeat=count))
+             for line in of_open_quote(front)]
+    return made
