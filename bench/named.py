@@ -117,7 +117,12 @@ BUILDING = {
     "the HTML standard's address, 24 bytes": PATTERNS[6],
     "250 groups with `*`, one in the other, around `ab`, 2,000 letters": PATTERNS[10],
 }
-SEARCHED = {"the HTML standard's address": PATTERNS[6]}
+SEARCHED = {
+    "a version with a pre-release and a build":
+        r"^v?(0|[1-9]\d*)\.(0|[1-9]\d*)\.(0|[1-9]\d*)(-[0-9A-Za-z.-]+)?(\+[0-9A-Za-z.-]+)?$",
+    "host name with `{0,61}` in a loop and behind it": PATTERNS[5],
+    "the HTML standard's address": PATTERNS[6],
+}
 URI, COUNT, OF_RUST = "`is_valid_uri_reference`", "`char_count`", "of Rust's"
 PYTHON = ["In one call", "One a call", "In jsonschema", "jsonschema's own", "`re`"]
 SIZES = list(takers.growth.SIZES)
@@ -159,7 +164,9 @@ TABLES = {
     "times": Entry(topic("time_net"), "ns", by({HERE: "{}"}, TIMES), ratio=(HERE, CRATE)),
     "encodings": Entry(topic("coding"), "MB/s", by({"Check": "is_{}", "Decoder": "from_{}"})),
     "forms": Entry(topic("forms"), "ns", of_forms, ratio=(HERE, "Compared")),
-    "patterns": Entry(takers.PATTERN_SEARCHES, {HERE: "ns", "`regex`": "ns", "Bytes": "bytes"}, of_patterns,
+    "patterns": Entry(takers.PATTERN_SEARCHES, {
+        HERE: "ns", "`regex`": "ns", "Rust's `regex`": "ns", "Bytes": "bytes",
+    }, of_patterns,
                       ratio=(HERE, "`regex`")),
     "building": Entry(takers.BUILDING_OF_TABLES, {
         "To build, microseconds": "µs", "To search, nanoseconds a byte": "ns a byte",
@@ -176,9 +183,7 @@ TABLES = {
     "requests": Entry(takers.REQUEST_LINES, {
         "Bytes a line": "bytes", "Requests a second": "a second", "MB a second": "MB/s",
     }, by({"Requests a second": "{}/requests", "MB a second": "{}/MB", RATIO: "{}/ratio"}, REQUEST_KINDS)),
-    "requests_since_30ca60d": Entry(None, ""),
-    "requests_written_at_once": Entry(None, ""),
-    "requests_kept": Entry(None, ""),
+    "lines": Entry(None, {"Instructions": "instructions", "At 8253291": "instructions"}),
     "python": Entry(takers.PYTHON_CHECKS, "thousand a second",
                     by({column: "{}/" + column for column in PYTHON})),
     "growth_time": Entry(takers.GROWTH, "ms", by({size: "{}/" + size + "/time" for size in SIZES})),

@@ -35,12 +35,11 @@ GROUPS = [
     Group("mail", "Mail addresses, to plain loops", "Here", "Plain loops"),
     Group("times", "Dates, times, addresses, UUIDs, to the Rust crate", "Here", "Rust crate"),
     Group("forms", "Templates, pointers, IRIs, patterns, encodings and JSON, to what the table names"),
-    Group("patterns", "Patterns of ECMA-262, to regex"),
+    Group("patterns", "Patterns of ECMA-262, to the kit's regex"),
+    Group("patterns", "Patterns of ECMA-262, to Rust's regex", "Here", "Rust's `regex`"),
     Group("characters", "Characters counted, by the bytes of the text, to Rust's count", "`char_count`", "of Rust's"),
     Group("records", "Records read, to csv::Reader"),
-    Group("requests", "Requests, to the program before lines were read over tokens"),
-    Group("requests_since_30ca60d", "Requests, to the program of commit 30ca60d"),
-    Group("requests_written_at_once", "Requests, to the program before errors were written where they are found"),
+    Group("requests", "Requests, to the program of commit 8253291"),
     # These tables have speeds, so that the other way stands above.
     Group("python", "Texts from Python in jsonschema, to jsonschema's own checks", "jsonschema's own", "In jsonschema"),
     Group("python", "Texts from Python in one call, to an expression for re", "`re`", "In one call"),
@@ -141,6 +140,8 @@ def described():
     parts = []
     for group in GROUPS:
         ratios = [bar.ratio for bar in bars(group)]
+        if not ratios:
+            continue
         slower = sum(float(ratio) > 1 for ratio in ratios)
         parts.append(f"{group.heading}: {len(ratios)} rows, from {min(ratios, key=float)} to {max(ratios, key=float)}, "
                     f"{slower} of them above 1.")

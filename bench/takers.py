@@ -6,7 +6,9 @@ import os
 import re
 import subprocess
 import sys
+import time
 from pathlib import Path
+from statistics import median
 from typing import Callable, NamedTuple
 
 import files
@@ -16,6 +18,7 @@ from tables import PATTERNS
 
 TOP = Path(__file__).resolve().parent.parent
 RUNS = 5
+LONG_SECONDS = 5
 LINE = re.compile(r"( *)(.+): ([\d.]+) (?:ns|MB/s)(?:, \d+ accepted)?")
 REQUESTS = re.compile(r"(.+?) +\d+ bytes a line +([\d.]+) thousand/s +(\d+) MB/s.*?(?:ratio ([\d.]+))?")
 
@@ -32,10 +35,9 @@ class Run(NamedTuple):
     figures: Callable[[Options], dict[str, float]]
 
 
-def output_of(words, given=None):
-    """The lines that a program prints. It is an error if it fails."""
-    with open(given or os.devnull, "rb") as source:
-        run = subprocess.run(words, stdin=source, stdout=subprocess.PIPE, check=True)
+def output_of(words, given=""):
+    """The lines that a program prints on such an input. It is an error if it fails."""
+    run = subprocess.run(words, input=given.encode(), stdout=subprocess.PIPE, check=True)
     return run.stdout.decode().splitlines()
 
 
@@ -56,15 +58,22 @@ def topic_figures(topic):
     return found
 
 
-def pattern_figures():
-    """The figures of the topic `patterns`: PATTERN/here and PATTERN/regex. A dash stands for what is not taken."""
+def line_figures(line):
+    """The figures of a line of bench/patterns.tsv: PATTERN/here and PATTERN/regex. A dash stands for none."""
+    (printed,) = output_of([TOP / "crates/strkw_bench/out/strkw_bench", "patterns"], line)
+    pattern, _, *engines = printed.split("\t")
+    pairs = (engine.split(" ")[:2] for engine in engines)
+    return {f"{pattern}/{name}": float(value) for name, value in pairs if value != "-"}
+
+
+def pattern_figures(options):
+    """The figures of all lines of bench/patterns.tsv, by the median of some runs. One that takes long is run once."""
     found = {}
-    for line in output_of([TOP / "crates/strkw_bench/out/strkw_bench", "patterns"], TOP / "bench/patterns.tsv"):
-        pattern, _, *engines = line.split("\t")
-        for engine in engines:
-            name, value = engine.split(" ")[:2]
-            if value != "-":
-                found[f"{pattern}/{name}"] = float(value)
+    for line in (TOP / "bench/patterns.tsv").read_text(encoding="utf-8").splitlines():
+        began, runs = time.monotonic(), [line_figures(line)]
+        is_long = time.monotonic() - began > LONG_SECONDS
+        runs += [line_figures(line) for _ in range(0 if is_long else RUNS - 1)]
+        found |= middle(runs)
     return found
 
 
@@ -101,19 +110,17 @@ def file_figures(options):
     return files.figures(TOP / "crates/strkw_csv/out/strkw_csv")
 
 
-def best(figures, better):
-    """The best figure of each name in some runs."""
-    runs = [figures() for _ in range(RUNS)]
-    return {name: better(found[name] for found in runs) for name in runs[0]}
+def middle(runs):
+    """The median figure of each name in some runs."""
+    return {name: median(found[name] for found in runs) for name in runs[0]}
 
 
 def topic(name):
-    """The run of a topic of strkw_bench, which is a crate. Encodings have speeds, and other topics times."""
-    better = max if name == "coding" else min
-    return Run(("strkw_bench",), lambda options: best(lambda: topic_figures(name), better))
+    """The run of a topic of strkw_bench, which is a crate."""
+    return Run(("strkw_bench",), lambda options: middle([topic_figures(name) for _ in range(RUNS)]))
 
 
-PATTERN_SEARCHES = Run(("strkw_bench",), lambda options: best(pattern_figures, min))
+PATTERN_SEARCHES = Run(("strkw_bench",), pattern_figures)
 BUILDING_OF_TABLES = Run(("strkw_csv",), building_figures)
 REQUEST_LINES = Run(("strkw",), request_figures)
 PYTHON_CHECKS = Run(("bindings",), python_figures)
