@@ -1,7 +1,8 @@
 /* Calls each function of strkw.h with inputs that it takes, that it finds wrong, and that it refuses. One byte read or
    written too far ends the program, as rooms.h says.
 
-   calls           runs the rows; the last line is `N passed, M failed`, the status 1 where a row fails
+   calls           runs the rows; the last line is `N passed, M failed`, the status 1 where a row fails. With PROVED
+                   defined there are those of functions that the static library alone has
    calls --list    the function and the kind of each row: right, wrong or refused */
 #define _DEFAULT_SOURCE
 #include "rooms.h"
@@ -317,11 +318,49 @@ static void call_check(void) {
     row("check", "refused", "mail addresses with no option", checks(4, 0, MAIL, STRKW_REFUSED, NULL));
     row("check", "right", "patterns", checks(4, companions, REGEX, STRKW_DONE, "\1\1\2\1\1"));
     row("check", "refused", "patterns with no option", checks(4, 0, REGEX, STRKW_REFUSED, NULL));
+    row("check", "right", "an unknown format that is ignored, beside mail addresses",
+        checks(7, companions | ignored, other, STRKW_DONE, "\1\1\2\1\1"));
+    row("check", "wrong", "mail addresses, beside unknown formats that are ignored",
+        checks(7, companions | ignored, MAIL, STRKW_DONE, "\0\0\2\0\0"));
+    row("check", "right", "mail addresses that are noted",
+        checks(202012, companions | as_draft, MAIL, STRKW_DONE, "\1\1\2\1\1"));
+    row("check", "right", "an unknown format, with each option",
+        checks(202012, companions | as_draft | ignored, other, STRKW_DONE, "\1\1\2\1\1"));
+    row("check", "right", "mail addresses that are noted, with each option",
+        checks(202012, companions | as_draft | ignored, MAIL, STRKW_DONE, "\1\1\2\1\1"));
     row("check", "refused", "option 8", checks(7, 8, date, STRKW_NO_OPTION, NULL));
     row("check", "refused", "draft 5 and option 8", checks(5, 8, date, STRKW_NO_DRAFT, NULL));
     row("check", "refused", "option 8 and no object", checks(7, 8, "[]", STRKW_NO_OPTION, NULL));
     row("check", "refused", "no object", checks(7, 0, "[]", STRKW_NO_SCHEMA, NULL));
     row("check", "refused", "no JSON", checks(7, 0, "{", STRKW_NO_SCHEMA, NULL));
+    /* The bytes are JSON (RFC 8259) as serde_json reads it: nothing stands behind the object, no name is left bare. */
+    row("check", "right", "blanks around an object",
+        checks(7, 0, " \t\r\n{} \n", STRKW_DONE, "\1\1\2\1\1"));
+    row("check", "right", "a member that stands twice, of which the last counts",
+        checks(7, 0, "{\"minLength\":99,\"minLength\":0}", STRKW_DONE, "\1\1\2\1\1"));
+    row("check", "right", "the same by an escape",
+        checks(7, 0, "{\"minLength\":99,\"min\\u004cength\":0}", STRKW_DONE, "\1\1\2\1\1"));
+    row("check", "right", "members of other names",
+        checks(7, 0, "{\"\":{},\"a\\u0000b\":[null,1e308,-0.0]}", STRKW_DONE, "\1\1\2\1\1"));
+    row("check", "refused", "an object and more", checks(7, 0, "{}{}", STRKW_NO_SCHEMA, NULL));
+    row("check", "refused", "an object and a comma", checks(7, 0, "{},", STRKW_NO_SCHEMA, NULL));
+    row("check", "refused", "an object and a letter", checks(7, 0, "{} x", STRKW_NO_SCHEMA, NULL));
+    row("check", "refused", "an object and a form feed", checks(7, 0, "{}\f", STRKW_NO_SCHEMA, NULL));
+    row("check", "refused", "a comma behind a member", checks(7, 0, "{\"maxLength\":1,}", STRKW_NO_SCHEMA, NULL));
+    row("check", "refused", "apostrophes", checks(7, 0, "{'maxLength':1}", STRKW_NO_SCHEMA, NULL));
+    row("check", "refused", "a name without quotes", checks(7, 0, "{maxLength:1}", STRKW_NO_SCHEMA, NULL));
+    row("check", "refused", "a comment", checks(7, 0, "{}//", STRKW_NO_SCHEMA, NULL));
+    row("check", "refused", "a number that is out of range", checks(7, 0, "{\"x\":1e400}", STRKW_NO_SCHEMA, NULL));
+    row("check", "refused", "half of a surrogate pair", checks(7, 0, "{\"x\":\"\\ud800\"}", STRKW_NO_SCHEMA, NULL));
+    row("check", "refused", "a byte that is no UTF-8", checks(7, 0, "{\"x\":\"\377\"}", STRKW_NO_SCHEMA, NULL));
+    row("check", "refused", "an end of a line in a text", checks(7, 0, "{\"x\":\"\n\"}", STRKW_NO_SCHEMA, NULL));
+    row("check", "refused", "no number", checks(7, 0, "{\"x\":NaN}", STRKW_NO_SCHEMA, NULL));
+    row("check", "refused", "no bytes", checks(7, 0, "", STRKW_NO_SCHEMA, NULL));
+    row("check", "refused", "a text", checks(7, 0, "\"{}\"", STRKW_NO_SCHEMA, NULL));
+    row("check", "refused", "null", checks(7, 0, "null", STRKW_NO_SCHEMA, NULL));
+    row("check", "refused", "true", checks(7, 0, "true", STRKW_NO_SCHEMA, NULL));
+    row("check", "refused", "a number", checks(7, 0, "1", STRKW_NO_SCHEMA, NULL));
+    row("check", "refused", "an object in an array", checks(7, 0, "[{}]", STRKW_NO_SCHEMA, NULL));
     row("check", "refused", "no bytes of an object", checks(7, 0, "", STRKW_NO_SCHEMA, NULL));
     row("check", "refused", "a byte order mark before the object", checks(7, 0, MARKED, STRKW_NO_SCHEMA, NULL));
     row("check", "refused", "an unknown format that is not ignored, where the draft says whether formats are checked",
@@ -507,6 +546,78 @@ static void call_schemas(void) {
     strkw_schema_free(NULL);
 }
 
+#ifdef PROVED
+/* ---- the proved functions that strkw_schema stands on, which the shared library does not show. They keep a schema
+   object in a handle of the caller's, and one of zeroed memory keeps nothing. */
+struct handle {
+    bool is_full;
+    void *at;
+};
+
+uint8_t strkw_nonnull_schema_compile(uint32_t draft, uint32_t options, const uint8_t *schema, size_t schema_count,
+                                     struct handle *handle);
+uint8_t strkw_nonnull_schema_check(struct handle *handle, const uint8_t *texts, size_t texts_count, const size_t *ends,
+                                   size_t ends_count, uint8_t *verdicts, size_t room);
+uint8_t strkw_nonnull_schema_errors(struct handle *handle, const uint8_t *text, size_t text_count, uint8_t *out,
+                                    size_t room, size_t *written);
+void strkw_nonnull_schema_free(struct handle *handle);
+
+static uint8_t keeps(struct handle *handle, uint32_t draft, uint32_t options, const char *schema) {
+    return strkw_nonnull_schema_compile(draft, options, text_of(schema), strlen(schema), handle);
+}
+
+/* The status of a check of two texts, whose verdicts are these, or are as they were where there is none. */
+static bool checks_in(struct handle *handle, size_t second, size_t room, uint8_t status, const char *verdicts) {
+    const size_t ends[] = {10, second};
+    uint8_t *made = room_of(2);
+    return strkw_nonnull_schema_check(handle, text_of("2024-02-292023-02-29"), 20, ends, 2, made, room) == status
+        && (verdicts == NULL ? !is_written(made, 2) : memcmp(made, verdicts, 2) == 0);
+}
+
+/* The status of the errors of a text, after which nothing is written. */
+static bool tells_none(struct handle *handle, const char *text, uint8_t status) {
+    uint8_t *out = room_of(9);
+    size_t written = 77;
+    return strkw_nonnull_schema_errors(handle, text_of(text), strlen(text), out, 9, &written) == status
+        && written == 77 && !is_written(out, 9);
+}
+
+/* What a handle that keeps nothing is told. */
+static void call_empty(const char *what, struct handle *handle) {
+    row("schema_check", "refused", what, checks_in(handle, 20, 2, STRKW_NO_SCHEMA, NULL));
+    row("schema_check", "refused", "an end past the texts, first", checks_in(handle, 21, 2, STRKW_NO_ROOM, NULL));
+    row("schema_check", "refused", "an end before another, first", checks_in(handle, 9, 2, STRKW_NO_ROOM, NULL));
+    row("schema_check", "refused", "too little room, first", checks_in(handle, 20, 1, STRKW_NO_ROOM, NULL));
+    row("schema_errors", "refused", what, tells_none(handle, "a", STRKW_NO_SCHEMA));
+    row("schema_errors", "refused", "no UTF-8, first", tells_none(handle, "\377", STRKW_NOT_UTF8));
+}
+
+static void call_handles(void) {
+    struct handle handle = {false, NULL};
+    call_empty("a handle of zeroed memory", &handle);
+    row("schema_compile", "refused", "into none", keeps(&handle, 7, 0, NO_FORMAT) == STRKW_REFUSED);
+    call_empty("nothing that was refused is kept", &handle);
+    row("schema_compile", "right", "into a handle", keeps(&handle, 7, 0, DATE) == STRKW_DONE);
+    row("schema_check", "right", "by a handle", checks_in(&handle, 20, 2, STRKW_DONE, "\1\0"));
+    row("schema_check", "refused", "an end past the texts", checks_in(&handle, 21, 2, STRKW_NO_ROOM, NULL));
+    row("schema_errors", "refused", "no UTF-8", tells_none(&handle, "\377", STRKW_NOT_UTF8));
+    row("schema_compile", "refused", "draft 5, into a full one", keeps(&handle, 5, 0, "{}") == STRKW_NO_DRAFT);
+    row("schema_check", "right", "it is as it was", checks_in(&handle, 20, 2, STRKW_DONE, "\1\0"));
+    row("schema_compile", "refused", "option 8, into a full one", keeps(&handle, 7, 8, "{}") == STRKW_NO_OPTION);
+    row("schema_check", "right", "it is as it was", checks_in(&handle, 20, 2, STRKW_DONE, "\1\0"));
+    row("schema_compile", "refused", "no object, into a full one", keeps(&handle, 7, 0, "[]") == STRKW_NO_SCHEMA);
+    row("schema_check", "right", "it is as it was", checks_in(&handle, 20, 2, STRKW_DONE, "\1\0"));
+    row("schema_compile", "refused", "an unknown format", keeps(&handle, 7, 0, NO_FORMAT) == STRKW_REFUSED);
+    row("schema_check", "right", "it is as it was", checks_in(&handle, 20, 2, STRKW_DONE, "\1\0"));
+    row("schema_compile", "right", "another one", keeps(&handle, 7, 0, "{\"pattern\":\"^2023\"}") == STRKW_DONE);
+    row("schema_check", "right", "by the other one", checks_in(&handle, 20, 2, STRKW_DONE, "\0\1"));
+    strkw_nonnull_schema_free(&handle);
+    call_empty("what was freed is kept no more", &handle);
+    strkw_nonnull_schema_free(&handle);
+    call_empty("what was freed twice", &handle);
+}
+#endif
+
 /* ---- one strkw_schema, and one schema object, of several threads and after a fork */
 
 static const char *SLUG = "{\"pattern\":\"^[a-z]+(-[a-z]+)*$\"}";
@@ -647,6 +758,9 @@ int main(int count, char **words) {
     call_refusal();
     call_errors();
     call_schemas();
+#ifdef PROVED
+    call_handles();
+#endif
     call_together();
     if (!lists) printf("%u passed, %u failed\n", passed, failed);
     return failed == 0 ? 0 : 1;

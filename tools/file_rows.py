@@ -19,6 +19,8 @@ RECORDS = ("a", "abc", ",", ",,", "a,", ",a", "ab,c", "a,bc", '""', '"ab"', '"a"
            'a,"\n\r\nb",c', '"a\r\n,"', '"",""', '"ab"c', 'a"b', "\u00e9", "a,\u00e9b")
 # Line ends in front of a quote that stays open, of which each LF, CR LF and CR alone is one.
 ENDS = ("\n", "\r", "\r\n")
+# A byte order mark, one byte a character.
+MARK = "\u00ef\u00bb\u00bf"
 
 
 def records_of(text):
@@ -185,6 +187,15 @@ def limits():
         yield of_file({"columns": {"1": {}}, "limits": given}, text + "\n", header=False)
 
 
+def marked():
+    """Files behind a byte order mark, which is no part of their first record, and limits of that."""
+    for record, field, text in product((None, 0, 1, 2, 3), (None, 0, 1, 2), ("a", "ab", '"a"', "a,b", "\u00e9")):
+        given = {name: limit for name, limit in (("record", record), ("field", field)) if limit is not None}
+        plan, text = {"columns": {"1": {}}, "limits": given}, text + "\nab\n"
+        asked = {"plan": {"draft": 7, **plan}, "header": False, "bytes": MARK + text}
+        yield [json.dumps(asked, separators=(",", ":")), *of_file(plan, text, header=False)[1:]]
+
+
 def lines():
     """All lines of these rows."""
     made = ["# names in the first record: too many, a missing one and one twice are told in this order"]
@@ -195,6 +206,8 @@ def lines():
     made += [line for row in fields() for line in row]
     made.append("# limits of a record and of a field: the first byte that passes one is told of, and the field first")
     made += [line for row in limits() for line in row]
+    made.append("# a byte order mark is no part of the file: it counts in no record and in no field")
+    made += [line for row in marked() for line in row]
     made.append("# a quote that stays open, behind line ends of each kind and two of them")
     made += [line for front in ("".join(ends) for count in (1, 2) for ends in product(ENDS, repeat=count))
              for line in of_open_quote(front)]

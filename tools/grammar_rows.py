@@ -13,6 +13,7 @@ import base64
 import functools
 import itertools
 import json
+import math
 import re
 import sys
 import unicodedata
@@ -478,6 +479,14 @@ def host_name_rows():
     yield counts("hostname of RFC 1034", "a", 1, 63, 1001, [["", ""], ["", ".b"], ["b.", ""]])
     yield counts("hostname of RFC 1034", "1.", 0, 126, 501, [["", "a"]])
     yield texts("hostname of RFC 1034", long_names(), whole(NAME))
+    yield "numbers between full stops are host names, whatever their sizes: no rule tells an address from a name"
+    numbers = ["0", "00", "1", "99", "127", "199", "200", "255", "256", "299", "300", "333", "999", "1000", "65536"]
+    of_numbers = [".".join(some) for count in (1, 2) for some in itertools.product(numbers, repeat=count)]
+    of_numbers += [".".join([*["1"] * at, it, *["9"] * (last - at)]) for last in (2, 3, 4) for at in range(last + 1)
+                   for it in numbers]
+    of_numbers += [".".join([it] * count) for count in (3, 4, 5, 6) for it in numbers]
+    for of in ("hostname of RFC 1034", "hostname"):
+        yield texts(of, [*dict.fromkeys([*of_numbers, *addresses_of_four()])], whole(NAME))
     yield "a character past ASCII at each place of a label"
     places = [["", ""], ["a", ""], ["", "a"], ["a", "b"], ["a.", ".b"], ["a.b", ""]]
     for of in ("hostname of RFC 1034", "hostname"):
@@ -596,6 +605,9 @@ def idn_mail_rows(texts_of_ascii):
     for part, octets in (("é", 2), ("日", 3), ("\U0001d400", 4)):
         yield counts("idn-email", part, 1, 64 // octets, 40, [["", "@b"]])
         yield counts("idn-email", part, 0, 62 // octets, 40, [['"', '"@b']])
+    for part in ("\\a", "\\\\", '\\"', "\\ "):
+        yield counts("idn-email", part, 0, 31, 70, [['"', '"@b'], ['"', '"@\u00e9'], ['"', '"@[1.2.3.4]']])
+        yield counts("idn-email", part, 0, 30, 70, [['"\u00e9', '"@b'], ['"ab', '"@c']])
     yield texts("idn-email", [f"a@{label}" for label in wide_labels(5, 63)], lambda text: True)
     yield texts("idn-email", [f"a@{label}" for label in wide_labels(64, 70)], never)
     yield "labels in ASCII beside a U-label"
@@ -3120,7 +3132,7 @@ REPEATED = ["a", "[^a]", "(?:ab)", "(?:a|b)", "(?:a|ab)", "(?:a?)", "(?:a*b)", "
             "(?:a\\b)", "(?:(?=ab).)", "(?:(?<!b)b)", "(?:a{2})", "(?:a{0,2}b)", "(?:)"]
 
 
-def repeated_rows():
+def repeated_term_rows():
     """Each quantifier behind each of these, lazy or not."""
     yield "each quantifier behind each term, lazy or not: the whole of each text of a and b"
     for lazy in ("", "?"):
@@ -3179,14 +3191,14 @@ def front_limit_rows():
     fronts += [(f"{term}^", 1 + steps, 1) for term, steps in NOTHINGS.items()]
     fronts += [(f"{term}^", 1 + steps, 2) for term, steps in {**UNREAD, **OTHERS}.items()]
     taken, refused = [], []
-    for front, steps, around in fronts:
+    for sign, (front, steps, around) in itertools.product("=!", fronts):
         left = MOST_STEPS_OF_ALL - 2 * MOST_TIMES - steps - around
-        taken.append(f"{front}(?=.{{{MOST_TIMES}}}.{{{MOST_TIMES}}}.{{{left}}})")
-        refused.append(f"{front}(?=.{{{MOST_TIMES}}}.{{{MOST_TIMES}}}.{{{left + 1}}})")
+        taken.append(f"{front}(?{sign}.{{{MOST_TIMES}}}.{{{MOST_TIMES}}}.{{{left}}})")
+        refused.append(f"{front}(?{sign}.{{{MOST_TIMES}}}.{{{MOST_TIMES}}}.{{{left + 1}}})")
     yield refusals("taken", taken)
     yield refusals(f"it takes more than {MOST_STEPS_OF_ALL} steps", refused)
     yield "in the same places, beside a lookbehind that looks far: there is a table where it is looked for by itself"
-    yield tables([[f"{front}(?=ab)(?<=ba)c", around == 1] for front, _, around in fronts])
+    yield tables([[f"{front}(?{sign}ab)(?<=ba)c", around == 1] for sign in "=!" for front, _, around in fronts])
     yield "the same terms with no `^`, and with one before and behind them, in each text of a and b"
     for form in ("{}(?=ab)", "{}(?!ab)", "^{}(?=ab)", "^{}(?!ab)", "{}^(?=ab)", "{}^(?!ab)"):
         patterns = [form.format(term) for term in {**NOTHINGS, **UNREAD, **OTHERS}]
@@ -3450,7 +3462,7 @@ def ahead_rows():
     yield from edge_pair_rows()
     yield from inner_look_rows()
     yield from repeated_look_rows()
-    yield from repeated_rows()
+    yield from repeated_term_rows()
     yield from front_limit_rows()
     yield from look_limit_rows()
     yield from table_rows()
@@ -3504,6 +3516,8 @@ STEPS = {
     "(?:(?<=\\b))": 3, "(?:(?<=$))": 3, "(?:(?<!a|b|c))": 9, "(?:(?<=(?:ab)*))": 6, "(?:(?<=a?))": 3, "(?:(?!\\s))": 4}
 # The same of classes: each set, property and character of one counts, and so does a hyphen last or first in it.
 STEPS_OF_CLASSES = {
+    "\\p{Lu}": 2, "\\P{Nd}": 2, "\\p{Alphabetic}": 2, "\\P{Hex}": 2, "\\p{Any}": 2, "\\P{ASCII}": 2, "\\p{Assigned}": 2,
+    "[\\p{Lu}\\p{Any}]": 3, "[\\p{ASCII}abcdefg]": 2, "[\\p{ASCII}abcdefgh]": 3, "[^\\p{Alphabetic}\\P{sc=Grek}]": 3,
     "[\\Dabcde]": 1, "[\\Dabcdef]": 2, "[\\dabcdef]": 1, "[\\dabcdefg]": 2, "[\\Wab]": 1, "[\\Wabc]": 2, "[\\wabc]": 1,
     "[\\wabcd]": 2, "[\\sabcde]": 2, "[\\sabcdef]": 3, "[\\Sabcd]": 2, "[\\Sabcde]": 3, "[abcdef-]": 1, "[abcdefg-]": 2,
     "[-abcdef]": 1, "[-abcdefg]": 2, "[^abcdefg]": 1, "[^abcdefgh]": 2, "[\\P{L}]": 2, "[^\\P{L}]": 2,
@@ -3532,7 +3546,7 @@ def limits_of_terms():
 
 def limits_of_atoms():
     """Counts of each atom at the greatest that is taken, and one more."""
-    for atom, steps in STEPS.items():
+    for atom, steps in {**STEPS, **STEPS_OF_CLASSES}.items():
         most = min(MOST_TIMES, MOST_STEPS // steps)
         yield f"{atom}{{{most}}}", True
         yield f"{atom}{{{most + 1}}}", False
@@ -4135,10 +4149,444 @@ def many_rows():
     yield long_searches(rows)
 
 
+# Quantifiers, each with the least and the greatest number of times; `None` where there is no greatest.
+TIMES = {"*": (0, None), "+": (1, None), "?": (0, 1), "{0}": (0, 0), "{1}": (1, 1), "{2}": (2, 2), "{3}": (3, 3),
+         "{0,}": (0, None), "{1,}": (1, None), "{2,}": (2, None), "{0,1}": (0, 1), "{0,2}": (0, 2), "{1,2}": (1, 2),
+         "{2,2}": (2, 2), "{2,3}": (2, 3), "{3,4}": (3, 4)}
+# No text of the rows of these quantifiers has as many letters.
+MANY_LETTERS = 14
+
+
+def numbers_of(quantifier):
+    """How many times a quantifier takes what is before it, up to so many."""
+    least, greatest = TIMES[quantifier]
+    return range(least, (MANY_LETTERS if greatest is None else greatest) + 1)
+
+
+def sums_of_rounds(inner, outer):
+    """How many letters rounds of so many letters take together, up to so many."""
+    found, after = set(), {0}
+    for rounds in range(max(outer) + 1):
+        if rounds in outer:
+            found |= after
+        after = {one + other for one in after for other in inner if one + other <= MANY_LETTERS}
+    return found
+
+
+def repeated_count_rows():
+    """A quantifier behind a group with each quantifier, and lazy quantifiers."""
+    yield "each quantifier behind a group that has each: how many letters it takes are sums of those of its rounds"
+    rows = []
+    for inner, outer in itertools.product(TIMES, repeat=2):
+        taken = sums_of_rounds(numbers_of(inner), numbers_of(outer))
+        rows += [[f"^(?:a{inner}){outer}$", "a" * size, size in taken] for size in range(10)]
+    yield searches(rows)
+    yield "two terms of one letter in a row, which take the sums of what each takes, and as alternatives what one takes"
+    rows = []
+    for one, other in itertools.product(("", *TIMES), repeat=2):
+        first, second = ({*numbers_of(quantifier or "{1}")} for quantifier in (one, other))
+        sums = {number + behind for number in first for behind in second}
+        for size in range(9):
+            rows += [[f"^a{one}a{other}$", "a" * size, size in sums],
+                     [f"^(?:a{one}|a{other})$", "a" * size, size in first | second]]
+    yield searches(rows)
+    yield "a lazy quantifier takes as many as a greedy one, where what follows asks for them (22.2.2.3)"
+    rows = []
+    for quantifier, size in itertools.product(TIMES, range(6)):
+        stands, twice = size in numbers_of(quantifier), 2 * size in numbers_of(quantifier)
+        letters = "a" * size
+        rows += [[f"^a{quantifier}?$", letters, stands], [f"^a{quantifier}?b?$", f"{letters}b", stands],
+                 [f"^(?:a{quantifier}?)$", letters, stands], [f"^(?:ab){quantifier}?$", "ab" * size, stands],
+                 [f"^(?:a|b){quantifier}?$", "ba" * size, twice], [f"b(?=a{quantifier}?$)", f"b{letters}", stands],
+                 [f"(?<=^a{quantifier}?)b", f"{letters}b", stands]]
+    yield searches(rows)
+    yield "each quantifier in groups, in look-arounds and behind a bar"
+    rows = []
+    for quantifier, size in itertools.product(TIMES, range(6)):
+        stands, letters = size in numbers_of(quantifier), "a" * size
+        rows += [[f"^(a{quantifier})$", letters, stands], [f"^(?<n>a{quantifier})$", letters, stands],
+                 [f"^(?:b|a{quantifier})$", letters, stands], [f"^b$|^a{quantifier}$", letters, stands],
+                 [f"^b|ca{quantifier}$", f"c{letters}", stands], [f"b(?=a{quantifier}$)", f"b{letters}", stands],
+                 [f"b(?!a{quantifier}$)", f"b{letters}", not stands], [f"(?<=^a{quantifier})b", f"{letters}b", stands],
+                 [f"(?<!^a{quantifier})b", f"{letters}b", not stands], [f"b(?=c|a{quantifier}$)", f"b{letters}", stands],
+                 [f"^(?=a{quantifier}$)", letters, stands], [f"(?<=^b|^a{quantifier})c", f"{letters}c", stands]]
+    yield searches(rows)
+
+
+# What matches nothing, and what it is in the notation of Python.
+NEVER_MATCHED = {"[]": "(?!)", "(?:[])": "(?!)", "(?:(?!))": "(?!)", "(?:(?<!))": "(?!)", "\\p{Cs}": "(?!)",
+                 "\\P{Any}": "(?!)", "[\\P{Any}]": "(?!)", "(?:[]a)": "(?!)", "(?:$a)": "(?:\\Za)"}
+
+
+def never_rows():
+    """What matches nothing, with each quantifier, alone and beside others."""
+    yield "what matches nothing, with each quantifier, alone and beside others: no time of it is a match"
+    rows = []
+    for (written, inner), quantifier in itertools.product(NEVER_MATCHED.items(), ("", *TIMES)):
+        for form in ("^{}$", "^{}a$", "^(?:{}|a)*$", "a|b{}"):
+            in_notation = form.format(f"(?:{inner}){quantifier}").replace("$", "\\Z")
+            rows += [[form.format(written + quantifier), word, re.search(in_notation, word) is not None]
+                     for word in ("", "a", "b")]
+    yield searches(rows)
+
+
+# What may stand around most of a pattern, and its steps.
+AROUND_STEPS = {
+    "({})": 0, "(?:{})": 0, "(?<n>{})": 0, "((?:{}))": 0, "(?:{})*": 2, "(?:{})+": 2, "(?:{})?": 3, "(?:{})*?": 2,
+    "(?:{})+?": 2, "(?:{})??": 3, "({})*": 2, "(?<={})": 2, "(?<!{})": 2, "(?={})": 2, "(?!{})": 2, "x|{}": 4,
+    "{}|x": 4, "x|{}|y": 6, "(?:x|{})": 4, "(?:{}|x)*": 6, "(?:{}|)": 3, "(?:|{})": 3}
+
+
+def large_rows():
+    """Terms of nearly all steps of a pattern, and many of what has no limit of its own."""
+    yield ("what no count stands behind takes as many steps as the whole pattern may, in groups, look-arounds, "
+           "alternatives and loops; what stands 0 times takes none")
+    taken, refused = [], []
+    for form, steps in AROUND_STEPS.items():
+        left = MOST_STEPS_OF_ALL - 2 * MOST_TIMES - steps
+        for more, patterns in enumerate((taken, refused)):
+            patterns.append(form.format(f"a{{{MOST_TIMES}}}b{{{MOST_TIMES}}}c{{{left + more}}}"))
+    above = f"(?:a{{{MOST_TIMES}}}b{{{MOST_TIMES}}}c{{{MOST_TIMES}}})"
+    yield refusals("taken", [*taken, *(f"{above}{times}x" for times in ("{0}", "{00}", "{0}?", "{0,0}", "{0,0}?"))])
+    yield refusals(f"it takes more than {MOST_STEPS_OF_ALL} steps", refused)
+    counted = [f"{above}{times}" for times in ("{1}", "{0,1}", "{0,}")]
+    yield refusals("a counted term takes more than 2000 steps", counted)
+    yield "as many groups, names, alternatives, digits and members of a class as a pattern of 2,000 characters may have"
+    many = [chr(0x4E00 + 2 * place) for place in range(1990)]
+    members = "".join(many)
+    named = "".join(f"(?<n{number}>)" for number in range(220))
+    yield refusals("taken", ["()" * 1000, "(?:)" * 500, "(?=)" * 200, "(?<!)" * 200, "|" * 849, "a|" * 800, "^" * 2000,
+                             "[]" * 1000, "a?" * 1000, named, f"[{members}]", f"[^{members}]", f"[{'a' * 1998}]"])
+    rows = [[f"^[{members}]$", one, one in many] for one in (many[0], many[999], many[-1], chr(0x4E01))]
+    yield searches(rows + [[f"^\\u{{{'0' * zeros}41}}[\\u{{{'0' * zeros}1F600}}]$", "A\U0001f600", True]
+                           for zeros in (7, 14, 30, 900)])
+
+
+# Where a piece of a pattern may stand.
+PLACES_OF_REASONS = (
+    "({})", "(?:{})", "(?<m>{})", "(?={})", "(?!{})", "(?<={})", "(?<!{})", "a|{}", "(a|{})", "|{}", "(?<m>a){}",
+    "(a){}", "a*{}", "a{{2}}?{}", "a?{}", "^{}", "\\b{}", "(?=a){}", "(?<!a){}", "[^a]{}", "\\d{}", "\\u0041{}",
+    "\\p{{L}}{}", "(?=a|{})", "(?<!(?:{}))", "(?:(?<m>a)|b(?=c{}))", "\u00e9{}", "\U0001f600{}")
+
+
+def placed_reason_rows():
+    """Each reason for which a pattern is not taken, wherever a term may stand."""
+    yield "each reason for which a pattern is not taken, in each place where a term may stand"
+    for piece, why in REASONS.items():
+        yield refusals(why, in_forms(PLACES_OF_REASONS, [piece]))
+    large = [f"(?:abc){times}" for times in ("{667}", "{667,}", "{0,667}", "{667,667}?")]
+    yield refusals("a counted term takes more than 2000 steps", in_forms(PLACES_OF_REASONS, large))
+    above = [f"a{times}" for times in ("{1001}", "{1001,}", "{1,1001}", "{01001}")]
+    above += [f"{term}{times}" for term in ("a*", "a{2}", "a??", "^", "\\b", "(?=a)", "(?<=a)", "a|", "")
+              for times in ("{1001}", "{1001,}", "{1,1001}")]
+    yield refusals("it has a count above 1000", in_forms(PLACES_OF_REASONS, above))
+    openings = ("(", "(?:", "(?<n>", "(?=", "(?!", "(?<=", "(?<!")
+    behind = [f"{before}{opening}a" for before in ("a", "a|", "a*", "a{2}?", "^", "(?=a)", "[^a]") for opening in openings]
+    yield refusals("its groups are more than 250 deep", [f"{'(' * 250}{piece}" for piece in behind])
+
+
+# Members of classes as they are written, with their code points, in the order of these; and some of each kind.
+CLASS_MEMBERS = {
+    "\\0": 0, "\\cA": 1, "\\x05": 5, "\\b": 8, "\\t": 9, "\\n": 0xA, "\\v": 0xB, "\\f": 0xC, "\\r": 0xD, "\\cz": 0x1A,
+    "!": 0x21, "+": 0x2B, "\\-": 0x2D, "\\/": 0x2F, "0": 0x30, "A": 0x41, "\\x5A": 0x5A, "\\[": 0x5B, "\\\\": 0x5C,
+    "\\]": 0x5D, "\\^": 0x5E, "b": 0x62, "\\u007A": 0x7A, "\\{": 0x7B, "\\u{7F}": 0x7F, "\u00e9": 0xE9,
+    "\\u0800": 0x800, "\u4e00": 0x4E00, "\uffff": 0xFFFF, "\\ud83d\\ude00": 0x1F600, "\U0001f608": 0x1F608,
+    "\\u{10FFFF}": 0x10FFFF}
+MEMBERS_OF_KINDS = {"\\b", "\\r", "\\-", "A", "\\u0800", "\U0001f608"}
+
+
+def near_points(*points):
+    """The characters of some code points and of those beside them."""
+    near = sorted({point + off for point in points for off in (-1, 0, 1)})
+    return [chr(point) for point in near if 0 <= point <= 0x10FFFF and not is_surrogate(point)]
+
+
+def class_member_rows():
+    """Ranges between members of a class, and each member alone, in classes that are negated or not."""
+    yield "ranges by how their ends are written, and what lies in them, in a class and a negated one"
+    rows = []
+    for (low, first), (high, last) in itertools.combinations(CLASS_MEMBERS.items(), 2):
+        if MEMBERS_OF_KINDS & {low, high}:
+            for character in near_points(first, (first + last) // 2, last):
+                is_between = first <= ord(character) <= last
+                rows += [[f"^[{low}-{high}]$", character, is_between],
+                         [f"^[^{low}-{high}]$", character, not is_between]]
+    yield searches(rows)
+    yield "each member of a class by its spelling, before and behind others, in a class and a negated one"
+    rows = []
+    for member, point in CLASS_MEMBERS.items():
+        for form, others in {"{}": "", "{}c-d": "cd", "c-d{}": "cd", "{0}{0}": "", "-{}": "-", "{}-": "-"}.items():
+            contents = form.format(member)
+            for character in dict.fromkeys((*near_points(point), member[-1], *"cd-")):
+                is_member = character in chr(point) + others
+                rows += [[f"^[{contents}]$", character, is_member], [f"^[^{contents}]$", character, not is_member]]
+    yield searches(rows)
+    yield "ranges upside down, and sets at their ends, in a negated class"
+    for of in (PATTERNS, WHOLE_PATTERNS):
+        for line in class_rows():
+            if not isinstance(line, str) and line[0]["ask"] == "texts":
+                negated = {key: [text.replace("[", "[^", 1) for text in line[0][key]] for key in ("yes", "no")}
+                yield {**line[0], **negated, "of": of}, line[1]
+    yield from dash_rows()
+
+
+# Classes with a dash behind a backslash: those that are patterns, and those that are none.
+ESCAPED_DASHES = {
+    "[z\\-a]": 1, "[\\d\\-a]": 1, "[a\\-\\d]": 1, "[\\-\\-]": 1, "[\\--\\/]": 1, "[^z\\-a]": 1, "[z\\-\\-a]": 1,
+    "[a-z\\-a]": 1, "[z\\--a]": 1, "[\\p{L}\\-a]": 1, "[\\uD83D\\uDE01\\-\\uD83D\\uDE00]": 1, "[\\/-\\-]": 0,
+    "[a-\\-]": 0, "[z-\\-]": 0, "[^a-\\-]": 0, "[\\--\\d]": 0, "[\\d-\\-]": 0}
+# What such a class has.
+HAVING_DASHES = {"a\\-z": "a-z", "\\-z": "-z", "a\\-": "a-", "+\\--/": "+-./", "a-c\\-e": "abc-e", "\\d\\-z": "0-z",
+                 "a\\-c-e": "a-cde"}
+
+
+def dash_rows():
+    """Classes with a dash behind a backslash."""
+    yield "a dash behind a backslash is a member of a class, and no sign of a range"
+    for of in (PATTERNS, WHOLE_PATTERNS):
+        yield texts(of, ESCAPED_DASHES, ESCAPED_DASHES.get)
+    yield searches([[f"^[{contents}]$", character, character in having]
+                    for contents, having in HAVING_DASHES.items() for character in "+,-./0abcdez"])
+
+
+# Sets that a class may have, each with what it has.
+SETS_OF_CLASSES = {
+    "\\d": lambda one: one in DIGITS, "\\D": lambda one: one not in DIGITS, "\\w": is_word, "\\W": is_no_word,
+    "\\s": lambda one: one in WHITE_SPACE, "\\S": lambda one: one not in WHITE_SPACE, "\\p{L}": str.isalpha,
+    "\\P{L}": lambda one: not one.isalpha(), "\\P{Lu}": lambda one: not one.isupper(),
+    "\\P{sc=Grek}": lambda one: one != "\u03a9", "b-f": lambda one: one in "bcdef"}
+
+
+def set_pair_rows():
+    """Each two sets in a class."""
+    yield "two sets in a class: it has what one of them has, and a negated class what none has"
+    rows = []
+    for (one, has), (other, also) in itertools.product(SETS_OF_CLASSES.items(), repeat=2):
+        for character in "aB0_ \u00e9\u03a9\u0660\u2028":
+            is_member = has(character) or also(character)
+            rows += [[f"^[{one}{other}]$", character, is_member], [f"^[^{one}{other}]$", character, not is_member]]
+    yield searches(rows)
+
+
+# Where a term may stand; atoms of each kind; assertions; and quantifiers.
+PLACES_OF_TERMS = (
+    "{}", "({})", "(?:{})", "(?<m>{})", "(?={})", "(?!{})", "(?<={})", "(?<!{})", "a|{}", "{}|a", "a{}", "a*{}",
+    "a{{2}}?{}", "^{}", "(?=a){}", "((?={}))", "(?:a|{})*")
+ATOMS_OF_KINDS = (
+    "a", "/", "\u00e9", "\U0001f600", ".", "\\d", "\\D", "\\s", "\\W", "\\f", "\\n", "\\v", "\\0", "\\cA", "\\x41",
+    "\\u0041", "\\ud83d\\ude00", "\\u{41}", "\\p{L}", "\\P{sc=Latn}", "\\/", "\\^", "[a]", "[^]", "[]", "(a)", "(?:a)",
+    "(?<n>a)", "()", "(?:)", "(?:^)", "(?:\\b)", "((?=a))", "(?:(?<!a))", "(?:a*)", "(?:a?)", "(?:a{2})", "(?:a{0})",
+    "(|a)")
+ASSERTIONS = ("^", "$", "\\b", "\\B", "(?=a)", "(?!a)", "(?<=a)", "(?<!a)", "(?=)", "(?<!)")
+FEW_QUANTIFIERS = ("*", "+", "?", "{2}", "{0}", "{1,}", "{0,2}")
+
+
+def placed_term_rows():
+    """Each quantifier behind each kind of atom, and behind each assertion, wherever a term may stand."""
+    greedy = [f"{atom}{quantifier}" for atom in ATOMS_OF_KINDS for quantifier in FEW_QUANTIFIERS]
+    repeated = [f"{assertion}{quantifier}" for assertion in ASSERTIONS for quantifier in FEW_QUANTIFIERS]
+    falling = ["a{2,1}", "a{1,0}?", "(?:a){10,9}", "a{1000,999}"]
+    yield "a quantifier, greedy or lazy, may stand behind each kind of atom, and no second one behind that"
+    for of in (PATTERNS, WHOLE_PATTERNS):
+        yield texts(of, in_forms(("{}", "{}?"), greedy), lambda text: True)
+        yield texts(of, in_forms(("{}*", "{}+", "{}??", "{}{{2}}", "{}?{{2}}"), greedy), never)
+    yield "no quantifier stands behind an assertion, and no count falls, wherever a term may stand"
+    for of in (PATTERNS, WHOLE_PATTERNS):
+        yield texts(of, in_forms(PLACES_OF_TERMS, (*ASSERTIONS, "a{1,2}")), lambda text: True)
+        yield texts(of, in_forms(PLACES_OF_TERMS, repeated + falling), never)
+
+
+# Pieces that make a pattern, and pieces that make none.
+RIGHT_PIECES = (
+    "a", "\u00e9", "\U0001f600", "/", "\\/", "\\^", "\\0", "\\cA", "\\x41", "\\u0041", "\\u{41}", "\\ud83d\\ude00",
+    "\\p{L}", "\\P{sc=Latn}", "[]", "[^]", "[\\d-]", "[^\\-]", "[a-b-c]", "[\\b]", "()", "(?:)", "(?=)", "(?<!)",
+    "(?<n>a)", "(?<$>a)", "(?<\\u0061>a)", "(?<\u00e9>a)", "(?<a\u200d>a)", "a{2,3}?", "a{0}", "a{1,}", "\\b", "\\B",
+    "^", "$", "|", "a|b")
+WRONG_PIECES = (
+    "\\-", "\\a", "\\_", "\\ ", "\\\u00e9", "\\9", "\\k", "\\k<a>", "\\c", "\\c1", "\\c_", "\\x", "\\x4", "\\xg1",
+    "\\u", "\\u004", "\\u{}", "\\u{110000}", "\\u{g}", "\\u{41", "\\00", "\\01", "\\p", "\\pL", "\\p{}", "\\p{X}",
+    "\\p{gc=X}", "\\p{sc=L}", "\\p{lu}", "\\P{Latin}", "[b-a]", "[^b-a]", "[\\d-a]", "[a-\\w]", "[\\B]", "[\\a]",
+    "[\\c]", "[\\c1]", "[\\x4]", "[\\u{}]", "[\\u{110000}]", "[\\p{X}]", "[^\\P{X}]", "[\\00]", "[\\1]", "[\\k]", "[",
+    "[a", "(", "(?", "(?:", "(?<", "(?<a", "(?<>a)", "(?<1>a)", "(?<a-b>a)", "(?<a b>a)", "(?<\\u0031>a)",
+    "(?<\\x61>a)", "(?<\\ud835>a)", "(?<n>a)(?<n>b)", "(?P<a>b)", "(?a)", "(?i:a)", "(?#a)", "(?>a)", "(?|a)", "]", "}",
+    "a]", "a}", "a{", "a{}", "a{,1}", "a{1", "a{1,2", "a{a}", "a{1 }", "a{ 1}", "a{1, 2}", "a**", "a*+", "a?*", "a???",
+    "a{1}{1}", "|*", "(*a)", "(?:+)")
+
+
+# Pieces that the whole grammar has, and the engine does not take.
+WHOLE_PIECES = (
+    "(b)\\1", "\\1(b)", "(?<n>b)\\k<n>", "\\k<n>(?<n>b)", "\\ud83d", "\\ude00", "\\u{D83D}", "[\\ud83d]",
+    "[^\\ude00-\\udfff]", "\\ude00\\ud83d", "\\p{CWKCF}", "\\P{scx=Latn}", "[\\p{scx=Grek}]", "a{1001}", "a{5000,}",
+    "a{0,4294967296}", "(?:a{1000}){1000}")
+# The reasons that are told of some of the pieces that make no pattern; of the others none is.
+TOLD_PIECES = tuple("\\- \\_ \\9 \\k \\k<a> \\p{X} \\p{gc=X} \\p{sc=L} \\p{lu} \\P{Latin} [\\p{X}] [^\\P{X}]".split())
+
+
+def placed_piece_rows():
+    """Pieces that make a pattern and pieces that make none, wherever a term may stand."""
+    yield "pieces that make a pattern and pieces that make none, in each place where a term may stand"
+    for of in (PATTERNS, WHOLE_PATTERNS):
+        yield texts(of, in_forms(PLACES_OF_TERMS, RIGHT_PIECES), lambda text: True)
+        yield texts(of, in_forms(PLACES_OF_TERMS, WRONG_PIECES), never)
+    untold = [piece for piece in WRONG_PIECES if piece not in TOLD_PIECES]
+    yield refusals(NOT_TAKEN, in_forms(PLACES_OF_TERMS, untold))
+    yield texts(PATTERNS, in_forms(PLACES_OF_TERMS, WHOLE_PIECES), never)
+    yield texts(WHOLE_PATTERNS, in_forms(PLACES_OF_TERMS, WHOLE_PIECES), lambda text: True)
+
+
+# Atoms of one character, with what each matches; and patterns that match the whole of a text by what one of its
+# characters is, with the text beside that, and whether the atom is to match it.
+READERS = {
+    "a": "a", "\u00e9": "\u00e9", "\\x41": "A", "\\u00e9": "\u00e9", "\\u2028": "\u2028", "\\u{1F600}": "\U0001f600",
+    "\\ud83d\\ude00": "\U0001f600", "\\0": "\0", "\\cJ": "\n", "\\n": "\n", "\\t": "\t", "\\/": "/", "[\\b]": "\b",
+    "[]": "", "[a-c]": "abc", "(?:a|b|c|d)": "abcd", "(a|[bc]|\\x64)": "abcd", "(?:a|b|c|\\d|/)": "abc0/", "\\d": "0"}
+TRIED = "abcdnt0_A/- \0\b\t\n\u00e9\u2028\u0660\u03a9\ufffd\U0001f600"
+READERS |= {name: "".join(one for one in TRIED if has(one)) for name, has in SETS_OF_CLASSES.items() if name[0] == "\\"}
+READERS |= {name: "".join(one for one in TRIED if one not in without_it) for name, without_it in {
+    ".": LINE_ENDS, "[^]": "", "[^a-c]": "abc", "[^\\b\\n]": "\b\n", "[^\\d\\u00e9]": "0\u00e9", "[^a-]": "a-"}.items()}
+READINGS = {
+    "^{}$": ("{}", 1), "^({})$": ("{}", 1), "^(?:{})$": ("{}", 1), "^(?<n>{})$": ("{}", 1), "^x|^{}$": ("{}", 1),
+    "^(?:xy|{})$": ("{}", 1), "^x*{}$": ("x{}", 1), "^(?:x{}){{2}}$": ("x{0}x{0}", 1), "^{}+$": ("{0}{0}", 1),
+    "^(?={})[^]$": ("{}", 1), "^(?!{})[^]$": ("{}", 0), "^[^](?<={})$": ("{}", 1), "^[^](?<!{})$": ("{}", 0),
+    "^(?=x{}$)": ("x{}", 1), "(?<=^x{})$": ("x{}", 1), "(?<=^x|^{})$": ("{}", 1), "^(?:(?=y|({}))[^])+$": ("{0}{0}", 1)}
+
+
+def reading_rows():
+    """Each atom of one character, wherever a term may stand."""
+    yield "each atom of one character matches the same wherever a term may stand"
+    for form, (text, is_matched) in READINGS.items():
+        rows = []
+        for atom, having in READERS.items():
+            rows += [[form.format(atom), text.format(one), (one in having) == bool(is_matched)] for one in TRIED]
+        yield searches(rows)
+    yield "each of several alternatives, alone, in groups and in look-arounds"
+    rows = []
+    for size in range(2, 7):
+        either = "|".join("abcdef"[:size])
+        for one in "abcdefg":
+            for form in ("^({})$", "^(?:{})+$", "^(?={})[^]$", "^(?=(?:{})$)", "^[^](?<={})$", "(?<=^(?:{}))$"):
+                rows.append([form.format(either), one, one in "abcdef"[:size]])
+            rows += [[f"^(?!{either})[^]$", one, one not in "abcdef"[:size]],
+                     [f"^[^](?<!{either})$", one, one not in "abcdef"[:size]],
+                     ["|".join(f"^{letter}$" for letter in "abcdef"[:size]), one, one in "abcdef"[:size]]]
+    yield searches(rows)
+
+
+def captures_of(pattern):
+    """How many groups of a pattern without classes capture."""
+    return len(re.findall(r"\((?!\?)|\(\?<[a-z]", pattern))
+
+
+def around_places(forms, group, asked):
+    """What asks for a group, and the group, each in each place where a term may stand, and the other beside it."""
+    patterns = []
+    for place, form in itertools.product(PLACES_OF_TERMS, forms):
+        patterns += [place.format(ask) + form for ask in asked] + [form + place.format(ask) for ask in asked]
+        patterns += [place.format(form + ask) for ask in asked] + [place.format(form) + ask for ask in asked]
+        patterns += [ask + place.format(form) + group for ask in asked]
+    return patterns
+
+
+def reference_rows():
+    """Back references by numbers and by names, and the groups that they ask for, wherever a term may stand."""
+    yield ("the whole grammar: back references by numbers up to that of all groups, and by the names of groups, "
+           "wherever a term may stand")
+    asked = ("\\1", "\\2", "\\3", "\\1\\2", "\\2\\1", "\\1\\3", "\\3\\1", "\\1*\\2", "\\1+")
+    yield texts(WHOLE_PATTERNS, around_places(("(b)", "(?<n>b)"), "()", asked),
+                lambda text: max(map(int, re.findall(r"\\([0-9])", text))) <= captures_of(text))
+    asked = ("\\k<n>", "\\k<o>", "\\k<n>\\k<o>", "\\k<o>\\k<n>", "\\k<n>*\\k<o>", "\\k<n>+")
+    yield texts(WHOLE_PATTERNS, around_places(("(?<n>b)", "(?<o>b)"), "(?<p>c)", asked),
+                lambda text: {*re.findall(r"\\k<([a-z])>", text)} <= {*re.findall(r"\?<([a-z])>", text)})
+    yield "names that stand twice, wherever a term may stand, and names that do not"
+    forms = ("{}(?<n>a)", "(?<n>a){}", "(?<n>a)|{}", "(?={})(?<n>a)", "(?<n>{})", "(?:{}){{0}}(?<n>a)")
+    twice = in_forms(forms, in_forms(PLACES_OF_TERMS, ["(?<n>b)"]))
+    for of in (PATTERNS, WHOLE_PATTERNS):
+        yield texts(of, twice, never)
+        yield texts(of, [text.replace("<n>", "<p>", 1) for text in twice], lambda text: True)
+
+
+def edge_character_rows():
+    """Characters that are digits, halves of pairs and marks elsewhere."""
+    yield "digits that are none of ASCII behind `\\0` and in counts and codes, and surrogates in braces"
+    digits = "\u0660\u0661\u06f1\u0967\uff10\uff11\U0001d7ce"
+    for of in (PATTERNS, WHOLE_PATTERNS):
+        yield texts(of, in_forms(("\\0{}", "[\\0{}]", "(\\0){}"), digits), lambda text: True)
+        yield texts(of, in_forms(("a{{{}}}", "a{{1,{}}}", "\\x4{}", "\\u004{}", "\\u{{{}}}", "\\c{}"), digits), never)
+    pairs = ("\\u{D83D}\\uDE00", "\\uD83D\\u{DE00}", "\\u{D83D}\\u{DE00}", "\\u{D83D}\\x41")
+    yield texts(PATTERNS, in_forms(("{}", "[{}]", "(?<a{}>x)", "[a-{}]"), pairs), never)
+    yield "a byte order mark is a character like others, in a pattern and in a text"
+    patterns = ("\ufeff", "^\ufeff$", "^\ufeffa", "\ufeff^", "^[\ufeff]", "^a", "\ufeff?a", "(?=\ufeff)",
+                "(?<=\ufeff)a")
+    yield searches([[pattern, text, re.search(pattern, text) is not None]
+                    for pattern in patterns for text in ("", "\ufeff", "\ufeffa", "a", "a\ufeff")])
+
+
 def ecma_rows():
     """The rows of patterns of ECMA-262."""
     return rows_of(escape_rows, name_rows, class_rows, member_rows, look_rows, ahead_rows, limit_rows, property_rows,
-                   whole_rows, whole_property_rows, character_rows, place_rows, needed_rows, many_rows)
+                   whole_rows, whole_property_rows, character_rows, place_rows, needed_rows, many_rows,
+                   repeated_count_rows, never_rows, large_rows, placed_reason_rows, class_member_rows, set_pair_rows,
+                   placed_term_rows, placed_piece_rows, reading_rows, reference_rows, edge_character_rows)
+
+
+# JSON: RFC 8259, as Python's json reads it, and as serde_json does a number out of the range of 64 bits (IEEE 754).
+
+def finite(number):
+    """A number of JSON, of which the nearest one of 64 bits is finite."""
+    if math.isinf(float(number)):
+        raise ValueError
+    return number
+
+
+def no_constant(name):
+    """Python's json reads `NaN` and its like, which are no JSON."""
+    raise ValueError(name)
+
+
+def is_json(text):
+    """Whether a text is JSON, of few brackets in one another and without escapes of surrogates."""
+    try:
+        json.loads(text, parse_constant=no_constant, parse_float=finite, parse_int=finite)
+    except ValueError:
+        return False
+    return True
+
+
+def numbers_of_json():
+    """Numbers with each form of an exponent behind each of a fraction."""
+    fronts = ["0", "1", "9.5", "123", "0.0", "0.000001", "10.00", f"1.{'0' * 40}1", "0." + "123456789" * 5,
+              "18446744073709551615", "18446744073709551616.0", "9007199254740993", "9" * 60]
+    amounts = ["0", "00", "1", "01", "0001", "9", "10", "22", "23", "99", "100", "000100", "290", "307", "308", "309",
+               "324", "400", "0400", "1000", "99999", "2147483647", "2147483648", "4294967296", "18446744073709551615",
+               "18446744073709551616", "9" * 30, f"{'0' * 30}1"]
+    exponents = [f"{letter}{sign}{amount}" for amount in amounts for letter in "eE" for sign in ("", "+", "-")]
+    for place, (front, exponent) in enumerate(itertools.product(fronts, ["", *exponents])):
+        yield f"{'-' * (place % 2)}{front}{exponent}"
+
+
+def json_rows():
+    """The rows of JSON."""
+    yield "numbers (section 6): words of what stands in them, and each form of an exponent"
+    yield texts("json", words("01-+.e", (1, 2, 3, 4, 5)), is_json)
+    numbers = list(numbers_of_json())
+    within = [f'[{it},"{it}"]' for it in numbers[::7]] + [f'{{"a":{it}}}' for it in numbers[::9]]
+    yield texts("json", numbers + within, is_json)
+    yield "arrays and objects (sections 4 and 5): words of their tokens"
+    yield texts("json", words(("[", "]", "{", "}", ",", ":", "1", '"a"', "null"), (1, 2, 3, 4)), is_json)
+    yield texts("json", words(("{", "}", ",", ":", '"a"'), (5,)) + words("[],1", (5, 6)), is_json)
+    yield "white space (section 2), at each place between tokens"
+    places = [["", "null"], ["null", ""], ["[", "null]"], ["[null", "]"], ["[null", ",null]"], ["[null,", "null]"],
+              ["[", "]", DIGITS], ["[[", "]]", DIGITS], ["[[]", ",{}]"], ["{", "}"], ["{", '"a":null}'],
+              ['{"a"', ":null}"], ['{"a":', "null}"], ['{"a":null', "}"], ['{"a":null', ',"b":1}'],
+              ['{"a":null,', '"b":1}']]
+    yield characters("json", " \t\n\r", places)
+    yield characters("json", "", places[:6], "\u0085\u00a0\u1680\u180e\u2003\u200b\u2028\u2029\u205f\u3000\ufeff")
+    yield "strings (section 7): what stands in them as it is, and behind a backslash"
+    yield sums("json", [['"', '"'], ['{"a', '":1}']], lambda it: 0x20 <= it and it not in (0x22, 0x5C), 0x10000)
+    yield characters("json", '"\\/bfnrt', [['"\\', '"'], ['"a\\', 'b"'], ['{"\\', '":1}']])
+    escapes = [['"\\u0', '41"'], ['"\\u00', '1"'], ['"\\u004', '"'], ['{"\\u004', '":1}']]
+    yield characters("json", "0123456789ABCDEFabcdef", escapes)
+    yield texts("json", [f'"\\u{it}"' for it in words("0aF", (0, 1, 2, 3, 4, 5))], is_json)
 
 
 # The parts of `stdin`, by their crates.
@@ -4165,7 +4613,7 @@ def report_rows():
 
 PARTS = {"strkw_label": label_rows, "strkw_coding": coding_rows, "strkw_pattern": pattern_rows, "strkw_ecma": ecma_rows,
          "strkw_uri": uri_rows, "strkw_net": net_rows, "strkw_mail": mail_rows, "strkw_time": time_rows,
-         "strkw_report": report_rows}
+         "strkw_json": json_rows, "strkw_report": report_rows}
 
 
 @functools.lru_cache(None)

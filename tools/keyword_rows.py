@@ -10,14 +10,15 @@ has the texts; neither reads what a program answers. The last line is `N passed,
 """
 import sys
 from dataclasses import dataclass
-from itertools import combinations, product, zip_longest
+from itertools import combinations, permutations, product, zip_longest
 from pathlib import Path
 
 from keyword_meaning import (CHECKS, KEYWORDS, MEMBERS, Number, answer, answer_to_line, compact, literal_pattern,
                              named_lines, parsed, place, said)
-from keyword_texts import (DRAFTS, ENCODERS, FORMAT_NAMES, FORMATS, JSON_TEXTS, MOST, NO_ENCODINGS, NO_JSON_TEXTS,
-                           OTHER_CODECS, OTHER_FORMATS, OTHER_MEDIA_TYPES, UNKNOWN_CODECS, UNKNOWN_FORMATS,
-                           UNKNOWN_MEDIA_TYPES, encoded_bytes, encodings, format_in, near)
+from keyword_texts import (AROUND_FORMATS, DRAFTS, ENCODERS, FORMAT_NAMES, FORMATS, JSON_TEXTS, MOST, NO_ENCODINGS,
+                           NO_JSON_TEXTS, OTHER_CODECS, OTHER_FORMATS, OTHER_FORMS, OTHER_MEDIA_TYPES,
+                           SPACES_AND_CONTROLS, UNKNOWN_CODECS, UNKNOWN_FORMATS, UNKNOWN_MEDIA_TYPES, encoded_bytes,
+                           encodings, format_in, is_json, near, rows_of_grammars, verdicts_of)
 
 CRATE = Path(__file__).resolve().parent.parent / "crates" / "strkw_test_rows"
 MARK = "# by tools/keyword_rows.py"
@@ -226,9 +227,14 @@ MEDIA_NAMES = ("text/x", "text/x;", "text/x;a=b", "text/x; a=b", "text/x ;a=b", 
 ENCODING_NAMES = ("a", "x-a", "A", "a;b", "a, b", "b", "a-b", "ab", "identity")
 
 
+# Names that differ in a sign before or behind, seen or not, or in a letter of another script.
+NAMES_ALIKE = ("a", "/a", "a/", "\ufeffa", "a\ufeff", "\u200ba", "a\u200b", "a\u00ad", "a.", ".a", "a,", "\"a\"", "#a",
+               "a#", "a?", "a=", "a:", "a\n", "\ta", "a\u00a0", "\u0430", "\uff41", "aa", "$a", "*")
+
+
 def registered_names():
     """The name of a row is compared as it stands, character by character, and the empty one counts as others do."""
-    for names in (NAMES, MEDIA_NAMES, ENCODING_NAMES):
+    for names in (NAMES, MEDIA_NAMES, ENCODING_NAMES, NAMES_ALIKE):
         yield from names_among(names)
 
 
@@ -1702,7 +1708,7 @@ def drafts_as_they_are_written():
 def cut(told):
     """An output as the program shows it: of a long one the beginning, and how many bytes it has."""
     size = len(told.encode())
-    return [told] if size < LONGEST_SHOWN else [f"{told[:60]}.. of {size + 1} bytes"]
+    return [told] if size < LONGEST_SHOWN else [f"{told.encode()[:60].decode()}.. of {size + 1} bytes"]
 
 
 def long_ones():
@@ -1940,6 +1946,333 @@ def everything_together():
         yield requested(lot.draw(*DRAFTS), schema, lot.draw(*texts, 5), **more)
 
 
+# ---- the texts of the rows of the grammars
+
+def some_of(texts, most):
+    """No more than so many of the texts, taken at even steps."""
+    return texts[::max(1, -(-len(texts) // most))]
+
+
+def in_parts(texts, size):
+    """The texts, so many at a time."""
+    return (texts[at:at + size] for at in range(0, len(texts), size))
+
+
+def entries_beside_each_shape():
+    """What stands beside an entry is looked at whatever it is: there, malformed, or left out itself."""
+    beside = (("contentEncoding", "contentMediaType"), ("contentMediaType", "contentEncoding"),
+              ("contentSchema", "contentMediaType"), ("contentSchema", "contentEncoding"),
+              ("contentMediaType", "contentSchema"), ("minLength", "maxLength"), ("maxLength", "minLength"))
+    for draft, (keyword, other), shape in product((4, 6, 7, 202012), beside, SHAPES):
+        if draft in (6, 7) or "content" in keyword:
+            schema = {other: shape, keyword: RIGHT[keyword]}
+            yield asked(draft, schema, ["!", ""], keyword=keyword)
+            yield asked(draft, schema, ["!", ""], left_out=[other])
+
+
+def formats_of_grammars():
+    """A format admits the texts that its grammar derives: those that the rows of the grammars ask for."""
+    for it in FORMATS:
+        verdicts = verdicts_of(it.grammar())
+        for verdict, most in ((True, 120), (False, 240)):
+            texts = [text for text in verdicts if verdicts[text] is verdict and len(text) < 100]
+            for some in in_parts(some_of(texts, most), 60):
+                yield asked(it.last, {"format": it.name}, some, validate_formats=True)
+
+
+def formats_in_other_forms():
+    """A format admits no form of a neighbouring standard, and each form of its own."""
+    for it in FORMATS:
+        accepted, refused = OTHER_FORMS[it.variant]
+        for some in in_parts(accepted + refused, 60):
+            yield asked(it.last, {"format": it.name}, some, validate_formats=True)
+        some = [*accepted[::5], *refused[::5]]
+        yield asked(it.last, {"format": it.name}, some, keyword="format", validate_formats=True)
+        for text in (*accepted[::7], *refused[::7]):
+            yield requested(it.last, {"format": it.name}, text, validate_formats=True)
+
+
+# Texts of formats that have no greatest length, and of media types and encodings: what stands first, what is written
+# over and over, what stands last, and what stands last where the text is none.
+WITHOUT_END = (
+    ("date-time", "2020-01-01T00:00:00.", "0", "Z", "z0"), ("time", "00:00:00.", "9", "+00:00", "+0"),
+    ("duration", "P", "1", "D", "d"), ("duration", "PT", "0", "H1M", "M1H"), ("uri", "a://", "a", "/?#", "/?# "),
+    ("uri", "a:", "/", "", "\\"), ("uri", "a", "a", ":", "_:"), ("uri", "a:?", "%41", "", "%4"),
+    ("uri", "a://h:", "8", "", "a"), ("uri-reference", "", "a/", "", "<"), ("uri-reference", "//", "a.", "a:", "a:b"),
+    ("uri-reference", "", "../", "", "%"), ("iri", "a:", "\u00e9", "", "\ue000"),
+    ("iri-reference", "", "\u00e9/", "", "<"), ("uri-template", "", "{a}", "", "{"),
+    ("uri-template", "{", "a.", "a}", "}"), ("uri-template", "{", "a,", "a}", "}"),
+    ("uri-template", "\u00e9", "a", "", "%"), ("json-pointer", "", "/a", "", "~"), ("json-pointer", "/", "~1", "", "~"),
+    ("relative-json-pointer", "1", "0", "#", "##"), ("relative-json-pointer", "0", "/a", "", "~"))
+
+
+def texts_without_end():
+    """Where a format bounds no length, its texts have any."""
+    for name, front, inner, end, wrong_end in WITHOUT_END:
+        draft = 202012
+        before, behind = compact(numbered({"draft": draft, "schema": {"format": name}, "instance": "",
+                                           "validate_formats": True})).split('""')
+        for times, last in product((50, 90, 300, 1100, 2100, 5000, 70_000), (end, wrong_end)):
+            text = front + inner * times + last
+            verdict = "valid" if last == end else f'error /format: {compact(text)} is not a "{name}"'
+            parts = [before + compact(front)[:-1], [inner, Number(str(times))], compact(last)[1:] + behind]
+            yield made(compact({"input": parts}), cut(f'{verdict}\nnote /format: "{name}"\nend'))
+
+
+def long_texts_of_grammars():
+    """A text that is long is of its format, its media type or its encoding where the rows of the grammars say so."""
+    for row in rows_of_grammars():
+        if row["ask"] != "long texts":
+            continue
+        of, draft, note = row["of"], 7, []
+        if of == "json":
+            keyword, name, words = "contentMediaType", JSON, f'is not compliant with "{JSON}" media type'
+        elif of in ENCODERS:
+            keyword, name, words = "contentEncoding", of, f'is not compliant with "{of}" content encoding'
+        elif found := [it for it in FORMATS if it.grammar() == of]:
+            keyword, name, draft = "format", found[0].name, found[0].last
+            words, note = f'is not a "{name}"', [f'note /format: "{name}"']
+        else:
+            continue
+        before, behind = compact(numbered({"draft": draft, "schema": {keyword: name}, "instance": "",
+                                           "validate_formats": True})).split('""')
+        for verdict, it in ((verdict, it) for verdict in ("yes", "no") for it in row.get(verdict, ())):
+            text = "".join(part * times for part, times in it)
+            first = "valid" if verdict == "yes" else f"error /{keyword}: {compact(text)} {words}"
+            parts = [before + '"', *([compact(part)[1:-1], Number(str(times))] for part, times in it), '"' + behind]
+            # What is shown of a long output ends with a character.
+            if verdict == "yes" or len(first.encode()[:60].decode(errors="ignore").encode()) == 60 or len(text) < 600:
+                yield made(compact({"input": parts}), cut("\n".join([first, *note, "end"])))
+
+
+def long_patterns():
+    """A literal pattern is compared whatever its length is, and stands whole in its errors; and so does a line."""
+    for size in (999, 1000, 1001, 2001, 5000, 70_000):
+        times, fewer = Number(str(size)), Number(str(size - 1))
+        long = "x" * size
+        front, inner, end = '{"draft":7,"schema":{"pattern":"^', '"},"instance":"', '"}'
+        for last, more in (("", "y"), ("$", "")):
+            yield made(compact({"input": [front, ["x", times], last + inner, ["x", times], more + end]}),
+                       ["valid", "end"])
+            yield made(compact({"input": [front, ["x", times], last + inner, ["x", fewer], end]}),
+                       cut(f'error /pattern: "{long[1:]}" does not match "^{long}{last}"\nend'))
+        yield made(compact({"input": [front, ["x", times], "$" + inner, ["x", times], "x" + end]}),
+                   cut(f'error /pattern: "{long}x" does not match "^{long}$"\nend'))
+        items = "ab|" * size
+        for text in ("y", "ab", "z", "a"):
+            told = "valid" if text in ("y", "ab") else f'error /pattern: "{text}" does not match "^({items}y)$"'
+            yield made(compact({"input": [front + "(", ["ab|", times], "y)$" + inner + text + end]}),
+                       cut(f"{told}\nend"))
+        yield made(compact({"input": [front, ["x", times], "+" + inner + end]}),
+                   cut(f'refused /pattern: "^{long}+" is not a "regex"\nend'))
+        yield made(compact({"input": [front + r"\\S*$" + inner, ["x", times], end]}), ["valid", "end"])
+        yield made(compact({"input": [front + r"\\S*$" + inner, ["x", times], " " + end]}),
+                   cut(f'error /pattern: "{long} " does not match "^\\S*$"\nend'))
+    for size in (2 ** 20, 2 ** 20 + 1, 2_000_000):
+        for sign, least in (("x", size), ("\u00e9", size), ("x", size + 1)):
+            front, end = compact(numbered({"draft": 7, "schema": {"minLength": least}, "instance": ""})).split('""')
+            told = "valid" if least == size else f'error /minLength: "{"x" * size}" is shorter than {least} characters'
+            yield made(compact({"input": [front + '"', [sign, Number(str(size))], '"' + end]}), cut(f"{told}\nend"))
+
+
+def long_encodings():
+    """A long text encodes JSON, or other text, or what is no text, as a short one does."""
+    for codec, encoder in ENCODERS.items():
+        block = encoder(b" " * 15).decode()
+        schema = {"contentMediaType": JSON, "contentEncoding": codec}
+        for times, last, draft in product((4, 60, 200, 5000), (b"1", b"!", b"\xff", b""), (6, 7)):
+            front, end = compact(numbered({"draft": draft, "schema": schema, "instance": ""})).split('""')
+            text = compact(block * times + encoder(last).decode())
+            told = {b"1": "valid", b"\xff": f"error /contentEncoding: {text} does not decode to UTF-8 text"}.get(
+                last, f'error /contentMediaType: {text} is not compliant with "{JSON}" media type')
+            parts = [front + '"', [block, Number(str(times))], encoder(last).decode() + '"' + end]
+            yield made(compact({"input": parts}), cut(f"{told}\nend"))
+
+
+def ends_of_long_ones():
+    """Long names, patterns and texts are compared to their last characters, and checks and engines are asked of all."""
+    for size in (20, 254, 255, 256, 1024, 4096):
+        stem = "n" * size
+        for name in (stem + "a", stem + "b", stem, stem + "c", stem[1:]) if size < 2000 else ():
+            names = [stem + "a", stem + "b", stem]
+            yield asked(7, {"format": name}, ["ab"], formats=[[it, "none"] for it in names])
+            yield asked(7, {"contentMediaType": name}, ["ab"], media_types=[[it, "none"] for it in names])
+            yield asked(7, {"contentEncoding": name}, ["ab"], codecs=[[it, "bytes"] for it in names])
+        front, end = '{"draft":7,"schema":{"pattern":"', '"}'
+        times = Number(str(size))
+        for before, behind in (("^", ""), ("^", "$"), ("^(y|", ")$"), ("^(", "|y)$")):
+            for text in ("a", "b", "", "ab"):
+                is_match = text == "a" or (text == "ab" and not behind)
+                pattern = before + stem + "a" + behind
+                told = "valid" if is_match else f'error /pattern: "{stem}{text}" does not match "{pattern}"'
+                parts = [front + before, ["n", times], f'a{behind}"}},"instance":"', ["n", times], text + end]
+                yield made(compact({"input": parts}), cut(f"{told}\nend"))
+    for size in (65, 1000, 3001):
+        text = "a" * size
+        yield asked(7, {"format": "n"}, [text, text + "a"], formats=[["n", "even"]])
+        yield asked(7, {"contentMediaType": "n"}, [text, text + "a"], media_types=[["n", "even"]])
+        yield asked(7, {"contentMediaType": "n", "contentEncoding": "c"}, [text, text + "a"],
+                    media_types=[["n", "even"]], codecs=[["c", "plain"]])
+        yield asked(7, {"pattern": "z+"}, [text, text + "a"], patterns=[["z+", text, "match"]])
+
+
+def members_that_stand_three_times():
+    """Of a member that stands three times the last counts, in a request and in its schema object."""
+    for name, values in TWICE.items():
+        row = numbered({"draft": 202012, "schema": {"format": "date"}, "instance": "ab"})
+        others = quoted(*((it, row[it]) for it in row if it != name))
+        values = list(map(parsed, values))
+        for first, second, last in permutations(values):
+            some = quoted((name, first), (name, second), (name, last))
+            for members in ([*some, *others], [*others, *some], [some[0], *others, *some[1:]]):
+                yield made(compact({"input": [joined(*members)]}), answer_to_line({**row, name: last}))
+    for draft, keyword in product((7, 202012), KEYWORDS):
+        row = numbered({"draft": draft, "schema": {}, "instance": "x"})
+        beside = {"contentMediaType": "x"} if keyword == "contentSchema" else {}
+        for some in permutations(numbered([RIGHT[keyword], ALSO_RIGHT[keyword], BAD[keyword]])):
+            schema = joined(*quoted((keyword, some[0]), *beside.items(), *((keyword, it) for it in some[1:])))
+            line = compact(row).replace('"schema":{}', f'"schema":{schema}')
+            yield made(compact({"input": [line]}), answer_to_line({**row, "schema": {**beside, keyword: some[2]}}))
+
+
+def twice_with_each_shape():
+    """Of a member that stands twice the last counts, of whatever shape the first and the last are."""
+    for name, shape in product(MEMBERS, SHAPES):
+        row = numbered({**ONE_REQUEST, name: RIGHT_MEMBERS[name]})
+        others = quoted(*((it, row[it]) for it in row if it != name))
+        for first, last in ((shape, row[name]), (row[name], shape)):
+            members = [*quoted((name, first)), *others, *quoted((name, last))]
+            yield made(compact({"input": [joined(*members)]}), answer_to_line({**row, name: last}))
+    for draft, keyword, shape in product((7, 202012), KEYWORDS, SHAPES):
+        right = numbered(RIGHT[keyword])
+        row = numbered({"draft": draft, "schema": {}, "instance": "x"})
+        beside = {"contentMediaType": "x"} if keyword == "contentSchema" else {}
+        for first, last in ((shape, right), (right, shape)):
+            schema = joined(*quoted((keyword, first), *beside.items(), (keyword, last)))
+            line = compact(row).replace('"schema":{}', f'"schema":{schema}')
+            yield made(compact({"input": [line]}), answer_to_line({**row, "schema": {**beside, keyword: last}}))
+
+
+def spaces_around_formats():
+    """Spaces and controls before and behind a text are characters of it."""
+    for it in FORMATS:
+        text = it.accepted[0]
+        for front, tail in ((0, 1), (1, 0), (1, 1), (0, 2)):
+            texts = [sign * front + text + sign * tail for sign in SPACES_AND_CONTROLS]
+            yield asked(it.last, {"format": it.name}, texts, validate_formats=True)
+        texts = [before + text + behind for before, behind in AROUND_FORMATS]
+        if it.name == "json-pointer":
+            texts = [before + text + behind for before, behind in AROUND_FORMATS if before]
+        yield asked(it.last, {"format": it.name}, texts, validate_formats=True)
+        for sign in "\t\n\r ":
+            yield requested(it.last, {"format": it.name}, text + sign, validate_formats=True)
+            yield requested(it.last, {"format": it.name}, sign + text, validate_formats=True)
+
+
+# What may be taken for nothing, or for one sign where it stands more than once.
+SEEN_AS_FEW = (
+    "\t", "\n", "\r", "\r\n", " ", "\x0b", "\x0c", "\x1f", "\x7f", "\u0085", "\u00a0", "\u2003", "\u2028", "\u3000",
+    "\u200b", "\u00ad", "\ufeff", "\0", "\u0301", "-", "_", ".", "0", "a", "\u00e9", "\U0001f4a9", "\U0001f1e9",
+    "\u200d")
+
+
+def texts_of_one_sign():
+    """A text of one sign over and over has as many characters, alone and beside others."""
+    for sign in SEEN_AS_FEW:
+        texts = [sign * count for count in (1, 2, 3, 4, 33)]
+        for count in (1, 2):
+            texts += ["a" + sign * count, sign * count + "a", "a" + sign * count + "b"]
+        for limit in (2, 3):
+            yield asked(7, {"minLength": limit}, texts)
+            yield asked(7, {"maxLength": limit}, texts)
+        for count in (1, 2, 3, 4):
+            size = count * len(sign)
+            yield requested(7, {"minLength": size, "maxLength": size}, sign * count)
+            yield requested(7, {"minLength": size + 1}, sign * count)
+            yield requested(7, {"maxLength": size - 1}, sign * count)
+
+
+def long_texts_of_a_shared_schema():
+    """A long text is asked of an object that lines share as others are."""
+    for schema, inner, tail in product(({"maxLength": 1}, {"minLength": 9999}, {"pattern": "^y"}),
+                                       ("x", "\u00e9", "\\n", "\\u0078", " ", "\\\""), ("", "\\n", " ")):
+        first = compact(numbered({"draft": 7, "schema": schema, "instance": "y"}))
+        front = first.split('"y"}')[0]
+        for times in (15, 31, 300, 1500, 9000):
+            line = f'{front}"{inner * times}{tail}"}}'
+            told = answer_to_text(first) * 17 + answer_to_text(line)
+            parts = [[first + "\n", Number("17")], front + '"', [inner, Number(str(times))], tail + '"}\n']
+            yield made(compact({"input": parts}), cut("\n".join(told)))
+
+
+def encodings_of_grammars():
+    """A text is an encoding, alone and beside a media type, where the rows of the encodings say so."""
+    for codec in ENCODERS:
+        texts = dict.fromkeys(text for row in rows_of_grammars() if row["ask"] == "decoded" and row["of"] == codec
+                              for text, _ in row["rows"] if len(text) < 100)
+        texts = some_of(list(texts), 180)
+        for some in in_parts(texts, 60):
+            yield asked(7, {"contentEncoding": codec}, some)
+        for some in in_parts(texts, 60):
+            yield asked(6, {"contentMediaType": "n", "contentEncoding": codec}, some, media_types=[["n", "all"]])
+        # Letters have either case in base16 alone (RFC 4648, section 8), whatever is encoded.
+        varied = [it for text in encodings(codec) for it in (text, text.lower(), text.swapcase(), text.capitalize())]
+        # The padding is what fills the last group, and nothing else (section 3.2).
+        for text in encodings(codec):
+            bare = text.rstrip("=")
+            varied += [bare + "=" * count for count in range(9)] + ["=" + text, bare + "%3D", bare + "."]
+        varied = list(dict.fromkeys(it for it in varied if it))
+        yield asked(7, {"contentEncoding": codec}, varied)
+        yield asked(7, {"contentMediaType": JSON, "contentEncoding": codec}, varied)
+        yield asked(7, {"contentMediaType": "n", "contentEncoding": codec}, varied, media_types=[["n", "even"]])
+        for text in varied:
+            yield requested(7, {"contentMediaType": JSON, "contentEncoding": codec}, text)
+
+
+def json_of_grammars():
+    """A text is of the media type, alone and where it is encoded, where the rows of JSON texts say so."""
+    verdicts = {text: it for text, it in verdicts_of("json").items() if len(text) < 200}
+    assert all(is_json(text) is it for text, it in verdicts.items())
+    texts = some_of(list(verdicts), 1800)
+    for number, some in enumerate(in_parts(texts, 60)):
+        yield asked(7, {"contentMediaType": JSON}, some)
+        codec = list(ENCODERS)[number % len(ENCODERS)]
+        encoded = [ENCODERS[codec](text.encode()).decode() for text in some[::2]]
+        yield asked(6, {"contentMediaType": JSON, "contentEncoding": codec}, encoded)
+
+
+def patterns_of_grammars():
+    """A pattern is a literal one, of its kind, where the rows of patterns say so, and matches the same texts."""
+    kinds = {"alternation": "AlternationPattern", "prefix": "PrefixPattern", "exact": "ExactPattern",
+             "no": "NoWhitespacePattern"}
+    for row in rows_of_grammars():
+        for pattern, kind in row["rows"] if row["ask"] == "analyses" else ():
+            found = literal_pattern(pattern)
+            assert (found[0] if found else None) == kinds.get(kind.split(" ")[0]), pattern
+            yield asked(7, {"pattern": pattern}, keyword="pattern")
+        if row["ask"] == "matches":
+            assert all(literal_pattern(row["of"])[1](text) for text in row.get("yes", ()))
+            assert not any(literal_pattern(row["of"])[1](text) for text in row.get("no", ()))
+            yield asked(202012, {"pattern": row["of"]}, [*row.get("yes", ()), *row.get("no", ())])
+
+
+def lines_of_grammars():
+    """A line is JSON where the values in it are, wherever they stand, and is no request where one of them is none."""
+    forms = ('{"draft":7,"schema":{"maxLength":0},"instance":%s}',
+             '{"draft":202012,"schema":{"contentMediaType":"a","contentSchema":%s,"x":%s},"instance":"x"}')
+    verdicts = verdicts_of("json")
+    # A text such as `0,"a":0` is none, and more than one member where it stands behind a name.
+    texts = some_of([it for it in verdicts if len(it) < 200 and "\n" not in it
+                     and (verdicts[it] or not is_json(f'{{"a":{it}}}'))], 1200)
+    for form, some in product(forms, in_parts(texts, 8)):
+        told = []
+        lines = [form.replace("%s", text) for text in some]
+        for text, line in zip(some, lines):
+            told += answer_to_text(line) if verdicts[text] else ["bad request", "end"]
+        assert len("\n".join(told).encode()) < LONGEST_SHOWN
+        yield made(compact({"input": [line + "\n" for line in lines]}), ["\n".join(told)])
+
+
 SECTIONS = (
     ("values of each shape", values_of_each_shape), ("values beside a media type", values_beside_a_media_type),
     ("values that nest", deep_values),
@@ -1978,7 +2311,17 @@ SECTIONS = (
     ("limits that are left out", limits_left_out), ("other notations around content", notations_around),
     ("names of other keywords", names_of_other_keywords), ("values by options", values_by_options),
     ("lines after lines", lines_after_lines),
-    ("everything together, by lot", everything_together),
+    ("everything together, by lot", everything_together), ("entries beside values of each shape",
+    entries_beside_each_shape), ("formats of the grammars", formats_of_grammars),
+    ("formats in other forms", formats_in_other_forms),
+    ("long patterns", long_patterns), ("texts without end", texts_without_end),
+    ("long texts of the grammars", long_texts_of_grammars), ("spaces around formats", spaces_around_formats),
+    ("long encodings", long_encodings), ("texts of one sign", texts_of_one_sign),
+    ("ends of long ones", ends_of_long_ones), ("long texts of a shared schema", long_texts_of_a_shared_schema),
+    ("members that stand three times", members_that_stand_three_times),
+    ("members that stand twice, of each shape", twice_with_each_shape),
+    ("encodings of the grammars", encodings_of_grammars), ("JSON texts of the grammars", json_of_grammars),
+    ("patterns of the grammars", patterns_of_grammars), ("lines of JSON texts", lines_of_grammars),
 )
 
 

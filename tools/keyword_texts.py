@@ -2,15 +2,45 @@
 
 Each format has the drafts that have it, the window of its lengths, and texts that its grammar derives or refuses. The
 sources are the RFCs that a comment names, with the choices of docs/DECISIONS.md. The first text of each list is the one
-that rows about options show.
+that rows about options show. More texts are those that the rows of crates/strkw_test_grammars ask its grammar for.
 """
 import base64
 import json
 from dataclasses import dataclass
+from functools import cache
+from math import isfinite
+from pathlib import Path
 
 DRAFTS = {4: "Draft4", 6: "Draft6", 7: "Draft7", 201909: "Draft201909", 202012: "Draft202012"}
 MOST = 2 ** 64 - 1
 LONGEST_HOST_NAME = ".".join("a" * size for size in (63, 63, 63, 61))
+
+
+# No format has them at its ends but a JSON pointer, which has any character behind its first solidus.
+SPACES_AND_CONTROLS = "".join(map(chr, (*range(33), 127)))
+# Nor has one these around it; but U+FEFF is a `ucschar` of RFC 3987, and a template has any character past ASCII.
+AROUND_FORMATS = (('"', '"'), ("<", ">"), ("`", "`"), ('"', ""), ("", '"'), ("<", ""), ("", ">"), ("", "\\"),
+                  ("\ufeff", ""))
+GRAMMARS = Path(__file__).resolve().parent.parent / "crates" / "strkw_test_grammars" / "stdin"
+
+
+@cache
+def rows_of_grammars():
+    """The rows of crates/strkw_test_grammars that ask for texts and for what they encode, as values of JSON."""
+    lines = GRAMMARS.read_bytes().decode().split("\n")
+    wanted = ('{"ask":"texts",', '{"ask":"long texts",', '{"ask":"decoded",', '{"ask":"analyses",', '{"ask":"matches",')
+    return [json.loads(line) for line in lines if line.startswith(wanted)]
+
+
+@cache
+def verdicts_of(grammar):
+    """What these rows say of the texts that they ask for by the name of a grammar."""
+    found = {}
+    for row in rows_of_grammars():
+        if row["ask"] == "texts" and row["of"] == grammar:
+            for verdict in ("yes", "no"):
+                found.update(dict.fromkeys(row.get(verdict, ()), verdict == "yes"))
+    return found
 
 
 @dataclass(frozen=True)
@@ -28,12 +58,25 @@ class Format:
         """Whether the draft has the format."""
         return self.first <= draft <= self.last
 
+    def grammar(self):
+        """The name by which the rows of the grammars ask for its texts."""
+        return "hostname of RFC 1034" if self.variant == "HostnameDraft4" else self.name
+
     def admits(self, text):
-        """The verdict of the table on a text."""
+        """The verdict of the table on a text, or else that of the rows of the grammars."""
         if text in self.accepted:
             return True
         if text in self.refused:
             return False
+        if text != self.accepted[0] == text.strip(SPACES_AND_CONTROLS):
+            return self.name == "json-pointer" and text.startswith(self.accepted[0])
+        if text in [before + self.accepted[0] + behind for before, behind in AROUND_FORMATS]:
+            return self.name in ("uri-template", "iri-reference") and text.startswith("\ufeff")
+        accepted, refused = OTHER_FORMS[self.variant]
+        if text in accepted + refused:
+            return text in accepted
+        if text in verdicts_of(self.grammar()):
+            return verdicts_of(self.grammar())[text]
         raise ValueError(f"the table has no verdict for {text!r} as a {self.name}")
 
 
@@ -142,6 +185,216 @@ def format_in(draft, name):
     return next((it for it in FORMATS if it.name == name and it.is_in(draft)), None)
 
 
+# Texts in forms that neighbouring standards, other readers and earlier RFCs have, by variant: those that its grammar
+# derives all the same, and those that it does not.
+OTHER_FORMS = {
+    # RFC 3339 has the extended form of a calendar date alone; ISO 8601 has others.
+    "Date": (
+        ("0001-01-01", "1970-01-01", "2400-02-29", "2020-12-31", "2020-04-30", "2020-06-30", "2020-09-30",
+         "2020-11-30"),
+        ("20200101", "2020-W01-1", "2020W011", "2020-W01", "2020-001", "2020001", "2020-01", "2020", "20",
+         "+2020-01-01", "-2020-01-01", "+002020-01-01", "12020-01-01", "20-01-01", "2020-1-1", "2020-01-1",
+         "01-01-2020", "01/01/2020", "2020.01.01", "2020 01 01", "2020-01-01Z", "2020-01-01+01:00", "2020-01-01T",
+         "2020-01-01T00:00:00Z", " 2020-01-01", "2020-01-01 ", "2020-01-01\n", "--01-01", "---01",
+         "Wed, 01 Jan 2020", "2020-Jan-01", "2020\u201301\u201301", "2020\u221201\u221201", "today", "now",
+         "2021-02-29", "2100-02-29", "2020-04-31", "2020-06-31", "2020-09-31", "2020-02-30", "2020-01-01/2020-01-02",
+         "\u0662\u0660\u0662\u0660-01-01", "0x20-01-01", "2020-01-0A", "18262", "2020-10-1O")),
+    # RFC 3339 has seconds and an offset with a colon in each; ISO 8601 and RFC 9557 have other forms.
+    "DateTime": (
+        ("2020-01-01T00:00:00z", "2020-01-01t00:00:00Z", "2020-01-01T00:00:00.0Z",
+         "2020-01-01T00:00:00.123456789012345Z", "2020-01-01T00:00:00-00:00", "2020-01-01T00:00:00+23:59",
+         "2020-01-01T00:00:00-23:59", "2016-12-31T23:59:60Z", "2016-12-31T15:59:60-08:00", "0000-01-01T00:00:00Z",
+         "2020-02-29T23:59:59.999+14:00"),
+        ("2020-01-01T00:00Z", "2020-01-01T00Z", "2020-01-01TZ", "2020-01-01", "2020-01-01T00:00:00",
+         "2020-01-01 00:00:00Z", "2020-01-01_00:00:00Z", "2020-01-0100:00:00Z", "20200101T000000Z",
+         "2020-01-01T000000Z", "20200101T00:00:00Z", "2020-01-01T00:00:00,5Z", "2020-01-01T00:00:00.Z",
+         "2020-01-01T00:00:00+0000", "2020-01-01T00:00:00+00", "2020-01-01T00:00:00+0:00",
+         "2020-01-01T00:00:00+00:0", "2020-01-01T00:00:00+00:00:00", "2020-01-01T00:00:00+24:00",
+         "2020-01-01T00:00:00+00:60", "2020-01-01T24:00:00Z", "2020-01-01T23:60:00Z", "2020-01-01T00:00:61Z",
+         "2020-W01-1T00:00:00Z", "2020-001T00:00:00Z", "2020-01T00:00:00Z", "2020-01-01T00:00:00Z[UTC]",
+         "2020-01-01T00:00:00+01:00[Europe/Paris]", "2020-01-01T00:00:00[UTC]", "2020-01-01T00:00:00Z[u-ca=hebrew]",
+         "2020-01-01T00:00:00 Z", "2020-01-01T00:00:00GMT", "2020-01-01T00:00:00UTC", "2020-01-01T00:00:00ZZ",
+         "2020-01-01T00:00:00A", "2020-01-01T00:00:00J", "+2020-01-01T00:00:00Z", "+002020-01-01T00:00:00Z",
+         "2020-1-1T0:0:0Z", "2020-01-01TT00:00:00Z", "2020-01-01T00:00:00\u221201:00", "2020-01-01T00:00:00Z ",
+         " 2020-01-01T00:00:00Z", "2020-01-01T00:00:00Z\n", "Wed, 01 Jan 2020 00:00:00 GMT", "1577836800",
+         "1577836800.5", "2020-01-01T00:00:00Z/P1D", "2021-02-29T00:00:00Z", "00:00:00Z")),
+    # A full-time has seconds and an offset, and no `T` before it.
+    "Time": (
+        ("00:00:00z", "23:59:59.000Z", "12:00:00+14:00", "12:00:00-12:00", "12:00:00.1Z",
+         "12:00:00.123456789012345678901234567890Z", "23:59:60z", "15:59:60-08:00"),
+        ("00:00Z", "00Z", "Z", "000000Z", "0000Z", "T00:00:00Z", "t00:00:00Z", "00:00:00,5Z", "00:00:00.Z",
+         "00:00.5Z", "00:00:00+00", "00:00:00+0000", "00:00:00+1:00", "00:00:00+01:0", "00:00:00+01:00:00",
+         "00:00:00 Z", "00:00:00Z ", " 00:00:00Z", "00:00:00ZZ", "24:00:00Z", "00:60:00Z", "00:00:60Z", "22:59:60Z",
+         "12:00:00 PM", "12:00:00", "12:00", "0:00:00Z", "00:0:00Z", "00:00:0Z", "-1:00:00Z", "+00:00:00Z",
+         "00:00:00Z[UTC]", "00:00:00\u221200:00", "00-00-00Z", "00.00.00Z", "00:00:00UTC", "00:00:00+24:00",
+         "00:00:00-00:60", "\u0660\u0660:00:00Z", "00:00:00Z\n")),
+    # Each number is whole and has no sign, and each unit but the first follows its next greater one (appendix A).
+    "Duration": (
+        ("P1Y", "P1M", "P1D", "P1W", "PT1H", "PT1M", "PT1S", "P0D", "PT0S", "P0W", "P1Y2M", "P1Y2M3D", "P1M3D",
+         "PT1H2M", "PT1M2S", "PT1H2M3S", "P1DT1H", "P1YT1H", "P1MT1M", "P1Y2MT3S", "P00001D",
+         "P100000000000000000000D", "P1234567890Y1234567890M1234567890DT1234567890H1234567890M1234567890S"),
+        ("P1.5D", "P0.5Y", "P1.5W", "PT0.5S", "PT1,5S", "PT1.S", "-P1D", "+P1D", "P-1D", "P+1D", "P1D ", " P1D",
+         "P1W1D", "P1Y1W", "P1WT1H", "P1Y2D", "PT1H2S", "P1DT", "P1YT", "PT", "P", "T1H", "P0001-01-01T00:00:00",
+         "P00010101T000000", "P1S", "PT1D", "P1H", "PT1Y", "PT1W", "p1d", "P1d", "Pt1H", "PT1h", "P1DT1D", "P1D1D",
+         "1D", "P 1D", "P1 D", "R5/P1D", "2020-01-01/P1D", "P1D/P1D", "PT1M1H", "PT1S1M", "P1D1Y", "P1D1M", "P1M1Y",
+         "PYD", "PD", "PT1", "P1", "PT1HM", "P1Y-2M", "P\u0661D", "1:00:00", "1 day", "PT1H30", "P1DT1H1D", "PTT1H",
+         "P1DTT1H", "P1D\n")),
+    # Host names have no dot at the end, no asterisk, no underscore and no port.
+    "Hostname": (
+        ("EXAMPLE.COM", "a.b", "1.com", "1", "1a", "a1-b2", "localhost", "a.b.c.d.e", "xn--bcher-kva",
+         "XN--BCHER-KVA.com"),
+        ("example.com.", ".", "*.example.com", "*", "example.com:80", "_sip._tcp.example.com", "_a", "a_",
+         "ex ample", " a", "a ", "a.-b", "a-.b", "a..b", "[::1]", "::1", "http://a", "//a", "a/b", "/a", "user@host",
+         "b\u00fccher.com", "a,b", "a;b", "a\u3002b", "a\uff0eb", "a%41", "a\n", "a\x00", "a!b", "a#", "a?", "\\a",
+         "(a)", "xn--", "a\u00ad", "\u200ba", "\uff41",
+         "a" * 64 + ".com",
+         "a." * 127 + "a",
+         "ab--cd", "a.ab--cd", "xn--a", "xn--\u00e9")),
+    # The same where hyphens may stand anywhere inside a label.
+    "HostnameDraft4": (
+        ("EXAMPLE.COM", "a.b", "1.com", "1", "1a", "a1-b2", "localhost", "a.b.c.d.e", "xn--bcher-kva",
+         "XN--BCHER-KVA.com", "ab--cd", "a.ab--cd", "xn--a", "a---b"),
+        ("example.com.", ".", "*.example.com", "*", "example.com:80", "_sip._tcp.example.com", "_a", "a_",
+         "ex ample", " a", "a ", "a.-b", "a-.b", "a..b", "[::1]", "::1", "http://a", "//a", "a/b", "/a", "user@host",
+         "b\u00fccher.com", "a,b", "a;b", "a\u3002b", "a\uff0eb", "a%41", "a\n", "a\x00", "a!b", "a#", "a?", "\\a",
+         "(a)", "xn--", "a\u00ad", "\u200ba", "\uff41",
+         "a" * 64 + ".com",
+         "a." * 127 + "a")),
+    # Four decimal numbers: no prefix length, no port, no zone, and none of the forms of inet_aton.
+    "Ipv4": (
+        ("1.1.1.1", "10.0.0.1", "192.0.2.235", "100.200.99.9", "0.0.0.255", "249.250.254.199"),
+        ("1.2.3.4/24", "1.2.3.4/0", "1.2.3.0/255.255.255.0", "1.2.3.4:80", "1.2.3.4%eth0", "127.1", "127.0.1", "1",
+         "2130706433", "0x7f.0.0.1", "0x7f000001", "0177.0.0.1", "127.0.0.01", "127.0.0.001", "00.0.0.0", "1.2.3.4.",
+         ".1.2.3.4", "1..3.4", "1.2.3.", "256.1.1.1", "1.256.1.1", "1.1.256.1", "1.2.3.260", "1.2.3.300", "1.2.3.-4",
+         "+1.2.3.4", "1,2,3,4", "1.2.3.4\n", " 1.2.3.4", "1. 2.3.4", "[1.2.3.4]", "::ffff:1.2.3.4", "1.2.3.4-9",
+         "*.2.3.4", "1.2.3.*", "1.2.3.x", "1.2.3.4e0", "1.2.3.f", "a.b.c.d", "1.2.3.999", "1.2.3.1000",
+         "1.2.3.4294967296", "\u0661.\u0662.\u0663.\u0664", "1\u30022\u30023\u30024", "localhost", "1:2:3:4",
+         "1.2.3.4.in-addr.arpa", "4.3.2.1.in-addr.arpa")),
+    # Addresses have no prefix length, no zone (RFC 4007), no brackets and no port; letters have either case (RFC
+    # 4291, section 2.2).
+    "Ipv6": (
+        ("1::", "2001:db8::1", "2001:DB8::1", "2001:dB8::A", "ABCD:EF01:2345:6789:ABCD:EF01:2345:6789",
+         "::ffff:192.0.2.1", "::FFFF:192.0.2.1", "::192.0.2.1", "1::192.0.2.1", "fe80::1", "FE80::1",
+         "0:0:0:0:0:0:0:0", "0000:0000:0000:0000:0000:0000:0000:0000", "::13.1.68.3", "1::8", "1:2::7:8",
+         "1:2:3:4::6:7:8", "0001:0002:0003:0004:0005:0006:0007:0008", "64:ff9b::192.0.2.33", "ff02::1:ff00:0",
+         "2001:db8:0:0:1:0:0:1"),
+        ("::1/128", "2001:db8::/32", "::/0", "fe80::1%eth0", "fe80::1%25eth0", "fe80::1%1", "fe80::1%", "[::1]:80",
+         "[::1", "::1]", "[fe80::1%25en0]", "::1:80:99999", ":::", "::::", ":", "1:", ":1", "1:2:3:4:5:6:7:8:",
+         ":1:2:3:4:5:6:7:8", "1:2:3:4:5:6:7:8::", "::1:2:3:4:5:6:7:8", "1:2:3:4::5:6:7:8:9", "::g", "::-1", "::+1",
+         "::1.2.3", "::1.2.3.4.5", "::1.2.3.256", "::01.2.3.4", "::1.2.3.04", "1.2.3.4::", "::1.2.3.4:5", "1.2.3.4",
+         "1:2:3:4:5:6:7:1.2.3.4", "1:2:3:4:5:1.2.3.4", "v1.x", "[v1.x]", "1-2-3-4-5-6-7-8", " ::1", "::1 ", "::1\n",
+         "0x1::", "2001:db8:::1", "2001.db8::1", "::00001", "::ffff:0x7f.1", "::ffff:127.1", "\u0661::", "::\uff11",
+         "http://[::1]/", "1:2:3:4:5:6:7:8/64", "::ffff:1.2.3.4/24", "1:2:3:4:5:6:7:*", "localhost",
+         "\\\\1--2.ipv6-literal.net")),
+    # Past ASCII stand the characters of `ucschar`, and of `iprivate` in a query (RFC 3987, section 2.2).
+    "Iri": (
+        ("http://\u00e9", "http://\u4f8b\u3048.jp/\u00fc?\u00f1#\u00df", "a:\u00e9", "HTTP://EXAMPLE.COM",
+         "http://a?\ue000\uf8ff\U000f0000\U0010fffd", "http://a/\u00a0\ud7ff\uf900\ufdcf\ufdf0\uffef",
+         "http://a/\U00010000\U0001fffd\U000e1000\U000efffd", "http://a/\u202e", "urn:\u00e9:\u00e9",
+         "http://\u00e9@\u00e9:8/\u00e9", "http://a/%C3%A9", "http://[::1]/\u00e9"),
+        ("http://a/\ue000", "http://a#\uf8ff", "http://\ue000/", "http://a/\u0080", "http://a/\u009f",
+         "http://a/\x7f", "http://a/\ufdd0", "http://a/\ufdef", "http://a/\ufff0", "http://a/\uffff",
+         "http://a/\U0001fffe", "http://a/\U000e0001", "http://a/\U000e0fff", "http://a/\U000f0000",
+         "http://a?\U000ffffe", "http://a b", "http://a/\u00e9 ", "\u00e9:a", "a\u00e9:b", "http://[\u00e9]/",
+         "http://[::\u00e9]/", "http://a:\u0661/", "http://a/%\u00e9", "http://a/%", "<http://\u00e9>",
+         "http://a/\"\u00e9\"", "http://a/{\u00e9}", "http://a/\\\u00e9", "//\u00e9/", "/\u00e9", "?\u00e9",
+         "#\u00e9", "www.\u00e9.com", "\u00e9@\u00e9")),
+    # The same, where what stands before the path may be missing.
+    "IriReference": (
+        ("./\u00e9:\u00e9", "#\u00e9", "/\u00e9", "//\u00e9:8/", "?\ue000", "\u00e9/\u00e9:\u00e9", "\u00a0",
+         "\u202e", "..", "a%20\u00e9", "///\u00e9", "\u00e9?\u00e9#\u00e9"),
+        ("\u00e9:a", "\u00e9:", ":\u00e9", "#\ue000", "/\ue000", "\ue000", "//\ue000", "<\u00e9>", "\u00e9 \u00e9",
+         "%\u00e9", "\u0080", "\ufdd0", "\uffff", "\U000e0001", "\u00e9|", "\u00e9^", "`\u00e9`", "{\u00e9}",
+         "\u00e9\\", "\u00e9#\u00e9#", "//[\u00e9]", "//\u00e9:\u00e9", "\u00e9\n", "1\u00e9:a")),
+    # A pointer is empty or begins with a solidus, and has any characters but a tilde that escapes nothing.
+    "JsonPointer": (
+        ("//", "/a/b", "/~0", "/~1", "/~01", "/~10", "/~0~1", "/-", "/0", "/00", "/ ", "/\u00e9", "/%", "/%41",
+         "/\"", "/\\", "/a b", "/#", "/a#", "/\n", "/\x00", "/\U0001f4a9", "/a/", "/*", "/..", "/{a}"),
+        ("a", "#", "#/", "#/a/b", "#a", "/~a", "/a~", "/~~", "/~~0", "/~0~", "/a/~", "/a/~3/b", "~0", "~1", "~",
+         "a/b", "./a", "../a", "$", "$.a", "$['a']", "http://a#/b", " /a", "\n/a", "\u2215a", "\uff0fa", "\\a", ".a",
+         "a.b", "[0]", "-", "0/a", "0#", "@/a", "/~\u0660")),
+    # A number without zeros before it, and then `#` or a pointer. Later drafts have an index that is moved, as in
+    # `0+1`.
+    "RelativeJsonPointer": (
+        ("1", "10", "100", "99999999999999999999", "10#", "0/", "0//", "1/a/b", "0/~0", "12/~1", "0/#", "0/0",
+         "0/\u00e9", "0/ ", "0/-1", "0/+1"),
+        ("#", "/", "-", "-0", "-1", "+0", "+1/a", "00", "00#", "010", "01/a", "0##", "0#/a", "0/a~", "0#0", "#0",
+         "0+1", "0-1", "0+1#", "0-1#", "1+1/a", "0-1/a", "0+", "0+0", "0 ", " 0", "0 /a", "0\n", "0a", "a0", "0.0",
+         "1e1", "0x1", "0/~2", "0/~", "0~0", "\uff10", "\u0660", "0,1", "0:1", "0[1]", "$", "../a", "./a", "0\\a",
+         "1_0", "#/a", "//")),
+    # A URI has a scheme, ASCII alone, and no zone in its address (RFC 6874).
+    "Uri": (
+        ("HTTP://EXAMPLE.COM/", "Http://a", "file:///a", "urn:isbn:0451450523",
+         "urn:uuid:f81d4fae-7dec-11d0-a765-00a0c91e6bf6", "data:,a", "mailto:a@b", "news:x", "http://a?",
+         "http://a#", "http://a:", "http://a:80", "http://a:/", "http://a:99999", "http://[::1]:80/",
+         "http://[::FFFF:1.2.3.4]", "http://a/%7e", "http://a/%7E", "http://a/;p=1", "a:b:c", "a+b-c.d:e", "z9:",
+         "http:", "http:///a", "http://a//b", "http://-._~!$&'()*+,;=/", "http://a/-._~!$&'()*+,;=:@",
+         "http://a?/?:@", "http://a#/?:@", "foo://example.com:8042/over/there?name=ferret#nose", "URL:http://a",
+         "javascript:alert(1)", "http://999.999.999.999", "http://a@:8/", "http://:80", "http://@", "x:?#",
+         "a:/..//../b", "C:/a"),
+        ("http://a b", " http://a", "http://a ", "http://a/ ", "http://a\n", "<http://a>", "\"http://a\"", "//a/b",
+         "a", "#a", "a/b", "a.b", "www.a.b", "-a:b", "+a:b", ".a:b", ":a", "://a", "a_b:c", "a b:c", "http://a/%",
+         "http://a/%zz", "http://a/%a", "http://a/%u0041", "http://a/\\b", "http:\\\\a", "http://a/^", "http://a/`",
+         "http://a/{b}", "http://a/|", "http://a/\"", "http://a/<b>", "http://[fe80::1%25en0]/",
+         "http://[fe80::1%en0]/", "http://[::1", "http://::1/", "http://[1.2.3.4]/", "http://[v.x]", "http://[vg.x]",
+         "http://[::1]a", "http://a:b/", "http://a:8b/", "http://a:-1/", "http://a:+1/", "http://a:80:80/",
+         "http://a@b@c/", "http://\u00fc", "http://a/\u00e9", "http://a/\u00a0", "http://a/[b]", "http://a?[b]",
+         "http://a?{b}", "http://a#b#c", "http://a/\x7f", "http://a/\x00", "ht tp://a", "http//a", "1http://a",
+         "\uff41:b")),
+    # The same, where what stands before the path may be missing, and a first segment has no colon then.
+    "UriReference": (
+        ("/a", "//a", "?", "#", "./a:b", "../..", "//a:80", "//a:", "a%20b", ";a", "//[::1]", "///a", "//", "/",
+         "/a:b", "a?b?c/d", "-._~!$&'()*+,;=", "a@b", "@a", "/%41", "1", "1/a:b", "?a:b", "#a:b", "a,b", "*", "+",
+         "C:/a", "a//b"),
+        (" a", "a ", "\n", ":a", ":", "1a:b", "-a:b", "a_b:c", "%", "%4", "%zz", "a%", "a#b#c", "##", "//[", "//]",
+         "//[a]", "//[::1]a", "//a@b@c", "//a:b", "//a:8:9", "\\a", "a\\b", "\\\\a\\b", "<a>", "a|b", "{a}", "a^b",
+         "`a`", "\"a\"", "[a]", "?[a]", "#[a]", "/a[0]", "//[fe80::1%25en0]", "a\u00a0", "/\u00e9", "?\u00e9",
+         "#\u00e9", "//\u00e9", "a\x7f", "a\x00", "\uff0fa")),
+    # Operators, names and modifiers of RFC 6570, section 2: a variable has one modifier and an expression one
+    # operator.
+    "UriTemplate": (
+        ("{a}", "{+a}", "{#a}", "{.a}", "{/a}", "{;a}", "{?a}", "{&a}", "{=a}", "{!a}", "{@a}", "{|a}", "{a,b}",
+         "{a*}", "{a:1}", "{a:9999}", "{a.b}", "{a.b.c*}", "{a%20b}", "{%41.%42}", "{_a}", "{a_}", "{1}", "{A1_}",
+         "a{b}c{d}", "{a}{b}", "{?a,b*,c:3}", "{+a,b:10}", "http://a/~{u}", "\u00e9{a}", "a%20{b}", "#", "?", "/[a]",
+         "a:b", "(a)*!$&+,;=@~", "{a}#", "/{+path}/here", "\U0001f4a9"),
+        ("{{a}}", "{a{b}}", "{a}}", "{{a}", "a}", "}{", "{a", "{$a}", "{(a)}", "{~a}", "{^a}", "{*a}", "{:a}",
+         "{-a}", "{ a}", "{a }", "{a*b}", "{a**}", "{a:}", "{a:0}", "{a:01}", "{a:-1}", "{a:1.5}", "{a:10000}",
+         "{a:1*}", "{a*:1}", "{a,}", "{,}", "{,a,}", "{+}", "{?}", "{#}", "{a b}", "{a-b}", "{a~b}", "{a/b}",
+         "{\u00e9}", "{a|b}", "{a=1}", "{a..b}", "{.}", "{..a}", "{a.}", "{a.,b}", "{a,,b}", "{??a}", "{?&a}",
+         "{+#a}", "{a%4}", "{a%}", "{a%zz}", "{%}", "<a>", "a b", "a\\b", "a^b", "a`b", "a|b", "\"a\"", "%", "%4",
+         "%zz", "a%", "\n", "a\x7f", "\x00", "{\n}", "{a:1:2}", "{a*,}")),
+    # Five groups of digits in either case, of any version and variant: no braces, no URN, and each hyphen.
+    "Uuid": (
+        ("00000000-0000-0000-0000-000000000000", "ffffffff-ffff-ffff-ffff-ffffffffffff",
+         "FFFFFFFF-FFFF-FFFF-FFFF-FFFFFFFFFFFF", "6ba7b810-9dad-11d1-80b4-00c04fd430c8",
+         "1ec9414c-232a-6b00-b3c8-9e6bdeced846", "017f22e2-79b0-7cc3-98c4-dc0c0c07398f",
+         "2489e9ad-2ee2-8e00-8ec9-32d5f69181c0", "320c3d4d-cc00-875b-8ec9-32d5f69181c0",
+         "5df41881-3aed-3515-88a7-2f4a814cf09e", "919108f7-52d1-4320-9bac-f847db4148a8",
+         "2ed6657d-e927-568b-95e1-2665a8aea6a2", "12345678-1234-0234-0234-123456789abc",
+         "12345678-1234-9234-4234-123456789abc", "12345678-1234-f234-c234-123456789ABC",
+         "f81D4FAE-7dec-11D0-A765-00a0c91e6BF6"),
+        ("urn:uuid:f81d4fae-7dec-11d0-a765-00a0c91e6bf6", "URN:UUID:f81d4fae-7dec-11d0-a765-00a0c91e6bf6",
+         "uuid:f81d4fae-7dec-11d0-a765-00a0c91e6bf6", "{f81d4fae-7dec-11d0-a765-00a0c91e6bf6}",
+         "(f81d4fae-7dec-11d0-a765-00a0c91e6bf6)", "\"f81d4fae-7dec-11d0-a765-00a0c91e6bf6\"",
+         " f81d4fae-7dec-11d0-a765-00a0c91e6bf6", "f81d4fae-7dec-11d0-a765-00a0c91e6bf6 ",
+         "f81d4fae-7dec-11d0-a765-00a0c91e6bf6\n", "f81d4fae-7dec-11d0-a765-00a0c91e6bf6-",
+         "-f81d4fae-7dec-11d0-a765-00a0c91e6bf6", "f81d4fae-7dec-11d0-a765-00a0c91e6bf60",
+         "f81d4fae-7dec-11d0-a765-00a0c91e6bf", "81d4fae-7dec-11d0-a765-00a0c91e6bf6",
+         "f81d4fae7dec11d0a76500a0c91e6bf6", "f81d4fae7dec-11d0-a765-00a0c91e6bf6",
+         "f81d4fae-7dec-11d0a765-00a0c91e6bf6", "f81d4fae-7dec-11d0-a76500a0c91e6bf6",
+         "f81d4fae_7dec_11d0_a765_00a0c91e6bf6", "f81d4fae 7dec 11d0 a765 00a0c91e6bf6",
+         "f81d4fae:7dec:11d0:a765:00a0c91e6bf6", "f81d4fae\u20137dec\u201311d0\u2013a765\u201300a0c91e6bf6",
+         "f81d4fae\u20107dec\u201011d0\u2010a765\u201000a0c91e6bf6", "0xf81d4fae-7dec-11d0-a765-00a0c91e6bf6",
+         "f81d4fa-e7dec-11d0-a765-00a0c91e6bf6", "f81d4fae7-dec-11d0-a765-00a0c91e6bf6",
+         "f81d4fae-7dec-11d0-a76500a0-c91e6bf6", "f81d-4fae-7dec-11d0-a765-00a0-c91e-6bf6",
+         "g81d4fae-7dec-11d0-a765-00a0c91e6bf6", "f81d4fae-7dec-11d0-a765-00a0c91e6bfg",
+         "f81d4fae-7dec-11d0-a765-00a0c91e6bf\uff16", "f81d4fae-7dec-11d0-a765-00a0c91e6bf\u0666",
+         "f81d4fae-7dec-11d0-a765-00a0c91e6bf+", "-81d4fae-7dec-11d0-a765-00a0c91e6bf6",
+         "f81d4fae-7dec-11d0-a765-00a0c91e6b 6", "00000000-0000-0000-0000-00000000000", "7QDBkvCA1+B9K/U0vrQx1A==",
+         "2.25.329800735698586629295641978511506172918", "0", "null")),
+}
+
+
 # ---- encodings (RFC 4648)
 
 ENCODERS = {
@@ -237,12 +490,15 @@ NO_JSON_TEXTS = ("", "{:}", "{", "01", "'a'", "[1,]", "nul", "{\"a\":1,}", "1 2"
 
 
 def is_json(text):
-    """Whether it is a JSON text (RFC 8259); NaN and the infinities of Python's reader are none."""
-    def refuse(name):
-        """Refuses a number that JSON has not."""
-        raise ValueError(name)
+    """Whether it is a JSON text (RFC 8259), with no surrogate that is alone and no number that no double is near."""
+    def finite(written):
+        """A number, unless no double is near it."""
+        if not isfinite(float(written)):
+            raise ValueError(written)
+        return 0
     try:
-        json.loads(text, parse_constant=refuse)
+        json.dumps(json.loads(text, parse_int=finite, parse_float=finite, parse_constant=finite),
+                   ensure_ascii=False).encode()
     except ValueError:
         return False
     return True
