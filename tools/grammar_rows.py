@@ -7,7 +7,7 @@
 
 In each part of `stdin` the rows of this script stand last, below the comment that names it. What it expects comes from
 the rules below, which are the standards' own in the notation of Python, or from another program than the one that is
-tested: Python's codecs and its tables of Unicode. Nothing is read from the program.
+tested: Python's codecs, its reader of JSON and its tables of Unicode. Nothing is read from the program.
 """
 import base64
 import functools
