@@ -166,6 +166,83 @@ static void call_decisions(void) {
     }
 }
 
+/* Texts, and behind each the functions that say yes, by the standards above: all others say no. */
+static const struct {
+    const char *text, *yes;
+} kinds[] = {
+    {"2024-02-29", " date hostname hostname_draft4 iri_reference uri_reference uri_template idn_hostname regex "},
+    {"23:20:50Z", " time uri_template regex "},
+    {"1985-04-12T23:20:50.52Z", " date_time uri_template regex "},
+    {"P4DT12H30M5S",
+        " duration hostname hostname_draft4 iri_reference uri_reference uri_template base64 base64url "
+        "idn_hostname regex "},
+    {"a.b@example.com", " email iri_reference uri_reference uri_template idn_email regex "},
+    {"www.example.com", " hostname hostname_draft4 iri_reference uri_reference uri_template idn_hostname regex "},
+    {"ab--c", " hostname_draft4 iri_reference uri_reference uri_template regex "},
+    {"192.0.2.1", " hostname hostname_draft4 ipv4 iri_reference uri_reference uri_template idn_hostname regex "},
+    {"2001:db8::1", " ipv6 uri_template regex "},
+    {"http://example.org/r\303\251sum\303\251", " iri iri_reference uri_template regex "},
+    {"/r\303\251sum\303\251", " iri_reference json_pointer uri_template regex "},
+    {"ftp://ftp.is.co.za/rfc/rfc1808.txt", " iri iri_reference uri uri_reference uri_template regex "},
+    {"//example.com/a?b#c", " iri_reference json_pointer uri_reference uri_template regex "},
+    {"/{var}{?q*}", " json_pointer uri_template "},
+    {"/a~1b", " iri_reference json_pointer uri_reference uri_template regex "},
+    {"1/foo", " iri_reference relative_json_pointer uri_reference uri_template regex "},
+    {"0#", " iri_reference relative_json_pointer uri_reference uri_template regex "},
+    {"f81d4fae-7dec-11d0-a765-00a0c91e6bf6",
+        " hostname hostname_draft4 iri_reference uri_reference uri_template uuid base64url idn_hostname "
+        "regex "},
+    {"j\303\274rgen@b\303\274cher.example", " iri_reference uri_template idn_email regex "},
+    {"b\303\274cher.example", " iri_reference uri_template idn_hostname regex "},
+    {"Zm9vYg==", " iri_reference uri_reference uri_template base64 base64url regex "},
+    {"/+8=", " iri_reference json_pointer uri_reference uri_template base64 regex "},
+    {"_-8=", " iri_reference uri_reference uri_template base64url regex "},
+    {"MZXW6YQ=", " iri_reference uri_reference uri_template base64 base64url base32 regex "},
+    {"CPNMUO18",
+        " hostname hostname_draft4 iri_reference uri_reference uri_template base64 base64url base32hex "
+        "idn_hostname regex "},
+    {"CPNMUOWZ",
+        " hostname hostname_draft4 iri_reference uri_reference uri_template base64 base64url base32 "
+        "idn_hostname regex "},
+    {"666F6F62",
+        " hostname hostname_draft4 iri_reference uri_reference uri_template base64 base64url base32 "
+        "base32hex base16 idn_hostname regex "},
+    {"{\"a\":1}", " json "},
+    {"1",
+        " hostname hostname_draft4 iri_reference relative_json_pointer uri_reference uri_template json "
+        "idn_hostname regex "},
+    {"\\d{4}", " regex "},
+    {"", " iri_reference json_pointer uri_reference uri_template base64 base64url base32 base32hex base16 regex "},
+    {"a b", " regex "},
+    {"(", " iri_reference uri_reference uri_template "},
+    {"null",
+        " hostname hostname_draft4 iri_reference uri_reference uri_template base64 base64url json "
+        "idn_hostname regex "},
+    {"/a?b#c", " iri_reference json_pointer uri_reference uri_template regex "},
+};
+
+/* Whether a function is among those that say yes. */
+static bool says_yes(const char *yes, const char *name) {
+    char wanted[40];
+    snprintf(wanted, sizeof wanted, " %s ", name + strlen("is_"));
+    return strstr(yes, wanted) != NULL;
+}
+
+static void call_kinds(void) {
+    for (size_t k = 0; k < sizeof kinds / sizeof *kinds; k++) {
+        const char *text = kinds[k].text;
+        const uint8_t *bytes = text_of(text);
+        for (size_t i = 0; i < sizeof formats / sizeof *formats; i++) {
+            bool yes = says_yes(kinds[k].yes, formats[i].name);
+            row(formats[i].name, yes ? "right" : "wrong", text, formats[i].check(bytes, strlen(text)) == yes);
+        }
+        for (size_t i = 0; i < sizeof decisions / sizeof *decisions; i++) {
+            bool yes = says_yes(kinds[k].yes, decisions[i].name);
+            row(decisions[i].name, yes ? "right" : "wrong", text, decisions[i].check(bytes, strlen(text)) == yes);
+        }
+    }
+}
+
 /* strkw_answer on these requests, with room for so many bytes: what it answers, the count, and the bytes. */
 static bool answers(const char *requests, size_t room, uint8_t status, size_t count, const char *wanted) {
     uint8_t *out = room_of(room);
@@ -194,7 +271,23 @@ static const char *MAIL = "{\"format\":\"email\"}", *IDN_HOST = "{\"format\":\"i
 static const char *MARKED = "\357\273\277{\"format\":\"date\"}";
 static const char *IDN_MAIL = "{\"format\":\"idn-email\"}", *REGEX = "{\"format\":\"regex\"}";
 
-/* strkw_check on five texts: a date, one that is none, one that is no UTF-8, and two empty ones. */
+static bool checks_between(uint32_t draft, uint32_t options, const char *schema, uint8_t status, const char *verdicts);
+
+/* The same by strkw_schema_compile and strkw_schema_check. */
+static bool checks_kept(uint32_t draft, uint32_t options, const char *schema, uint8_t status, const char *verdicts) {
+    static const size_t ends[] = {10, 20, 21, 21, 21};
+    strkw_schema *made = NULL;
+    if (strkw_schema_compile(draft, options, text_of(schema), strlen(schema), &made) != status) return false;
+    if (status != STRKW_DONE) return made == NULL;
+    uint8_t *room = room_of(5);
+    const uint8_t *texts = bytes_of("2024-02-292023-02-29\377", 21);
+    uint8_t answer = strkw_schema_check(made, texts, 21, ends, 5, room, 5);
+    strkw_schema_free(made);
+    return answer == STRKW_DONE && memcmp(room, verdicts, 5) == 0;
+}
+
+/* strkw_check on five texts: a date, one that is none, one that is no UTF-8, and two empty ones. The calls with offsets
+   and those by a kept schema have to answer alike. */
 static bool checks(uint32_t draft, uint32_t options, const char *schema, uint8_t status, const char *verdicts) {
     static const size_t ends[] = {10, 20, 21, 21, 21};
     const void *ends_at_the_end = bytes_of((const char *)ends, sizeof ends);
@@ -202,14 +295,20 @@ static bool checks(uint32_t draft, uint32_t options, const char *schema, uint8_t
     uint8_t *room = room_of(5);
     uint8_t answer =
         strkw_check(draft, options, text_of(schema), strlen(schema), texts, 21, ends_at_the_end, 5, room, 5);
-    return answer == status && (verdicts == NULL ? !is_written(room, 5) : memcmp(room, verdicts, 5) == 0);
+    return answer == status && (verdicts == NULL ? !is_written(room, 5) : memcmp(room, verdicts, 5) == 0)
+        && checks_between(draft, options, schema, status, verdicts)
+        && checks_kept(draft, options, schema, status, verdicts);
 }
 
 static bool checks_ends(size_t first, size_t second, size_t room, uint8_t status) {
     const size_t ends[] = {first, second};
     uint8_t *verdicts = room_of(room);
-    return strkw_check(7, 0, text_of("{}"), 2, text_of("ab"), 2, ends, 2, verdicts, room) == status
-        && is_written(verdicts, room) == (status == STRKW_DONE);
+    strkw_schema *made = NULL;
+    if (strkw_schema_compile(7, 0, text_of("{}"), 2, &made) != STRKW_DONE) return false;
+    uint8_t *kept = room_of(room), answer = strkw_schema_check(made, text_of("ab"), 2, ends, 2, kept, room);
+    strkw_schema_free(made);
+    return strkw_check(7, 0, text_of("{}"), 2, text_of("ab"), 2, ends, 2, verdicts, room) == status && answer == status
+        && is_written(verdicts, room) == (status == STRKW_DONE) && is_written(kept, room) == (status == STRKW_DONE);
 }
 
 /* The same texts between offsets of 64 bits and of 32, the first text behind a byte that is none of them. */
@@ -428,7 +527,21 @@ static void call_refusal(void) {
     row("refusal", "refused", "nothing was written", written == 77 && !is_written(out, 1));
 }
 
-/* strkw_errors of a text by a schema object, with room for so many bytes. */
+/* strkw_schema_errors of a text by a schema object that is compiled, with room for so many bytes. */
+static bool writes_kept(uint32_t draft, uint32_t options, const char *schema, const char *text, size_t room,
+                        uint8_t status, size_t count, const char *wanted) {
+    strkw_schema *made = NULL;
+    uint8_t *out = room_of(room);
+    size_t written = 77;
+    if (strkw_schema_compile(draft, options, text_of(schema), strlen(schema), &made) != STRKW_DONE) return false;
+    uint8_t answer = strkw_schema_errors(made, text_of(text), strlen(text), out, room, &written);
+    strkw_schema_free(made);
+    bool is_whole = wanted == NULL ? !is_written(out, room) : memcmp(out, wanted, strlen(wanted)) == 0;
+    return answer == status && is_whole && written == count;
+}
+
+/* strkw_errors of a text by a schema object, with room for so many bytes. Where the object is compiled,
+   strkw_schema_errors has to answer alike. */
 static bool writes(uint32_t draft, uint32_t options, const char *schema, const char *text, size_t room, uint8_t status,
                    size_t count, const char *wanted) {
     uint8_t *out = room_of(room);
@@ -436,7 +549,12 @@ static bool writes(uint32_t draft, uint32_t options, const char *schema, const c
     uint8_t answer = strkw_errors(draft, options, text_of(schema), strlen(schema), text_of(text), strlen(text), out,
                                   room, &written);
     bool is_whole = wanted == NULL ? !is_written(out, room) : memcmp(out, wanted, strlen(wanted)) == 0;
-    return answer == status && is_whole && written == count;
+    strkw_schema *made = NULL;
+    bool is_compiled =
+        strkw_schema_compile(draft, options, text_of(schema), strlen(schema), &made) == STRKW_DONE;
+    strkw_schema_free(made);
+    return answer == status && is_whole && written == count
+        && (!is_compiled || writes_kept(draft, options, schema, text, room, status, count, wanted));
 }
 
 static const char *DATE = "{\"format\":\"date\"}", *NO_FORMAT = "{\"format\":\"no-format\"}";
@@ -487,6 +605,68 @@ static void call_errors(void) {
     row("errors", "refused", "no room", strkw_errors(7, 0, object, 2, object, 2, NULL, 1, &written) == STRKW_NULL);
     row("errors", "refused", "no count", strkw_errors(7, 0, object, 2, object, 2, out, 1, NULL) == STRKW_NULL);
     row("errors", "refused", "nothing was written", written == 77 && !is_written(out, 1));
+}
+
+/* Formats with the first draft that has each, as docs/CALLING.md tells, and whether it is a companion. No draft has the
+   last. */
+static const struct {
+    const char *schema;
+    uint32_t first;
+    bool is_companion;
+} known[] = {
+    {"{\"format\":\"date\"}", 4, false},           {"{\"format\":\"uri-reference\"}", 6, false},
+    {"{\"format\":\"iri\"}", 7, false},            {"{\"format\":\"uuid\"}", 201909, false},
+    {"{\"format\":\"email\"}", 4, true},           {"{\"format\":\"regex\"}", 4, true},
+    {"{\"format\":\"idn-email\"}", 7, true},       {"{\"format\":\"idn-hostname\"}", 7, true},
+    {"{\"format\":\"no-format\"}", 999999, false},
+};
+
+/* Whether each function that takes a schema object has this status for it, and this verdict on a text of no format. */
+static bool all_answer(uint32_t draft, uint32_t options, const char *schema, uint8_t status, uint8_t verdict) {
+    static const uint8_t text[] = {'(', ' '};
+    static const size_t ends[] = {2}, wide[] = {0, 2};
+    static const uint32_t narrow[] = {0, 2};
+    const uint8_t *object = (const uint8_t *)schema;
+    const size_t count = strlen(schema);
+    const bool done = status == STRKW_DONE;
+    uint8_t verdicts[] = {7, 7, 7, 7}, lines[99] = {0}, kept[99] = {0}, why[199];
+    size_t written = 77, written_kept = 77, told = 77;
+    strkw_schema *made = NULL;
+    bool right = strkw_check(draft, options, object, count, text, 2, ends, 1, verdicts, 1) == status
+        && strkw_check_offsets(draft, options, object, count, text, 2, wide, 2, verdicts + 1, 1) == status
+        && strkw_check_offsets32(draft, options, object, count, text, 2, narrow, 2, verdicts + 2, 1) == status
+        && strkw_errors(draft, options, object, count, text, 2, lines, sizeof lines, &written) == status
+        && strkw_refusal(draft, options, object, count, why, sizeof why, &told) == status
+        && strkw_schema_compile(draft, options, object, count, &made) == status && (made != NULL) == done;
+    if (made != NULL)
+        right = right && strkw_schema_check(made, text, 2, ends, 1, verdicts + 3, 1) == STRKW_DONE
+            && strkw_schema_errors(made, text, 2, kept, sizeof kept, &written_kept) == STRKW_DONE;
+    strkw_schema_free(made);
+    for (size_t i = 0; i < 4; i++) right = right && verdicts[i] == (done ? verdict : 7);
+    const bool has_error = memcmp(lines, "error /format: ", 15) == 0;
+    return right && written == written_kept && memcmp(lines, kept, sizeof lines) == 0
+        && has_error == (done && verdict == 0) && (told == 0) == done;
+}
+
+static void call_options(void) {
+    static const uint32_t drafts[] = {4, 6, 7, 201909, 202012};
+    row("check", "right", "the numbers of options and statuses, as docs/CALLING.md has them",
+        STRKW_FORMATS_AS_DRAFT == 1 && STRKW_IGNORE_UNKNOWN_FORMATS == 2 && STRKW_COMPANION_FORMATS == 4
+            && STRKW_DONE == 0 && STRKW_OUT_OF_MEMORY == 1 && STRKW_NO_ROOM == 2 && STRKW_NO_DRAFT == 3
+            && STRKW_NO_SCHEMA == 4 && STRKW_REFUSED == 5 && STRKW_NO_OPTION == 6 && STRKW_NULL == 7
+            && STRKW_NOT_UTF8 == 8);
+    for (size_t d = 0; d < sizeof drafts / sizeof *drafts; d++)
+        for (uint32_t options = 0; options < 8; options++)
+            for (size_t k = 0; k < sizeof known / sizeof *known; k++) {
+                const bool is_checked = (options & STRKW_FORMATS_AS_DRAFT) == 0 || drafts[d] <= 7;
+                const bool is_known = known[k].first <= drafts[d]
+                    && (!known[k].is_companion || (options & STRKW_COMPANION_FORMATS) != 0);
+                const bool is_refused = is_checked && !is_known && (options & STRKW_IGNORE_UNKNOWN_FORMATS) == 0;
+                const uint8_t verdict = is_checked && is_known ? 0 : 1;
+                const uint8_t status = is_refused ? STRKW_REFUSED : STRKW_DONE;
+                row("check", verdict == 1 ? "right" : "wrong", known[k].schema,
+                    all_answer(drafts[d], options, known[k].schema, status, verdict));
+            }
 }
 
 /* strkw_schema_compile, and whether it made nothing: the place for it is as it was. */
@@ -752,11 +932,13 @@ int main(int count, char **words) {
     lists = count == 2 && strcmp(words[1], "--list") == 0;
     call_formats();
     call_decisions();
+    call_kinds();
     call_answer();
     call_check();
     call_check_offsets();
     call_refusal();
     call_errors();
+    call_options();
     call_schemas();
 #ifdef PROVED
     call_handles();

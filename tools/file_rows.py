@@ -11,7 +11,10 @@ MOST = 2 ** 64 - 1
 # Names of a header, of which some differ in case, in blanks or in nothing that shows.
 NAMES = ("", "a", "A", "a ", "b")
 # Fields as they stand in a file, one byte a character: each of them is not UTF-8, is empty, or has a blank or more.
-FIELDS = ("", '""', " ", "x", "xx", "\u00ff", "x\u00ff", "\u00c3\u00a9")
+FIELDS = ("", '""', " ", "x", "xx", "\u00ff", "x\u00ff", "\u00c3\u00a9", "\u00c2\u00a0", "\u00ef\u00bb\u00bf",
+          "\u00e2\u0080\u008b", "\t")
+# What stands by its code in a message.
+CODES = {ord(c): f"\\u{{{ord(c):x}}}" for c in "\t\u200b\ufeff"}
 OWN = ({}, {"empty": "skip"})
 KEYWORDS = ({"minLength": 1}, {"maxLength": 1}, {"minLength": 2, "maxLength": 0})
 # First records by which limits are tried, with and without quotes, doubled quotes and line ends in quotes.
@@ -76,7 +79,7 @@ def errors(line, name, schema, field):
     if count is None:
         yield f"{line}: {name}: not UTF-8"
     elif field or schema.get("empty") != "skip":
-        shown = field.encode("latin-1").decode()
+        shown = json.dumps(field.encode("latin-1").decode(), ensure_ascii=False)[1:-1].translate(CODES)
         for keyword, word in (("minLength", "shorter"), ("maxLength", "longer")):
             limit = schema.get(keyword, count)
             if count < limit if word == "shorter" else limit < count:
@@ -86,8 +89,9 @@ def errors(line, name, schema, field):
 
 def named(plan, names):
     """What is wrong with the names of the columns."""
-    if len(names) > plan.get("limits", {}).get("columns", 10000):
-        return f"the first record has {len(names)} columns, more than {plan['limits']['columns']}"
+    most = plan.get("limits", {}).get("columns", 10000)
+    if len(names) > most:
+        return f"the first record has {len(names)} columns, more than {most}"
     missing = sorted(set(plan["columns"]) - set(names))
     if missing:
         return f"the file has no column `{missing[0]}`"
@@ -121,7 +125,8 @@ def told(plan, row, text):
         if names is None:
             is_header = row.get("header", True)
             names = fields if is_header else [str(number) for number in range(1, len(fields) + 1)]
-            fault = named(plan, names)
+            broken = [place for place, field in enumerate(fields, 1) if characters(field) is None]
+            fault = f"{line}: field {broken[0]} is not UTF-8" if is_header and broken else named(plan, names)
             if fault:
                 return [fault]
             if is_header:
@@ -154,9 +159,19 @@ def headers():
     for names in (*product(NAMES, repeat=2), *product(NAMES, repeat=3)):
         text = ",".join(names) + "\n"
         yield of_file({"columns": {"a": {}}}, text)
+        if len(names) == 2:
+            yield of_file({"columns": {"a": {"empty": "skip"}, "A": {}}}, text)
         if len(names) == 3 and len(set(names)) < 3:
             yield of_file({"columns": {"a": {}}, "duplicates": "each"}, text)
             yield of_file({"columns": {"a": {}}, "limits": {"columns": 2}}, text)
+
+
+def broken_names():
+    """Names that are not UTF-8, whether the plan names their columns or not, on the first line and on a later one."""
+    for names, front in product(product(("a", "b\u00ff", "\u00c3"), repeat=3), ("", "\r\n\n")):
+        for keep_going in (False, True):
+            yield of_file({"columns": {"a": {}}, "duplicates": "each"}, f"{front}{','.join(names)}\na,b,c\n",
+                          keep_going=keep_going)
 
 
 def widths():
@@ -167,6 +182,12 @@ def widths():
         text = ",".join([other] + [field] * (count - 1)) + "\n"
         yield of_file({"columns": {"a": {}}}, ",".join("abc"[:width]) + "\nx" + ",x" * (width - 1) + "\n" + text)
         yield of_file({"columns": {"1": {}}}, "x" + ",x" * (width - 1) + "\n" + text, header=False)
+
+
+def widest():
+    """One column more than 10,000, by plans that bound something else."""
+    for given in ({"record": 99999}, {"field": 9, "record": MOST}):
+        yield of_file({"columns": {"1": {}}, "limits": given}, "," * 10000 + "\n", header=False)
 
 
 def fields():
@@ -196,18 +217,33 @@ def marked():
         yield [json.dumps(asked, separators=(",", ":")), *of_file(plan, text, header=False)[1:]]
 
 
+def ends():
+    """Line ends in quotes, with what stands between them, and between records: the record behind them has an error."""
+    plan = {"columns": {"a": {"maxLength": 1}}}
+    for parts in product(("\r", "\n", "x"), repeat=3):
+        yield of_file(plan, f'b,a\n"{"".join(parts)}",x\n,xx\n')
+    for front, behind in product(product("\r\n", repeat=2), repeat=2):
+        yield of_file(plan, f'{"".join(front)}a\n{"".join(behind)}xx\r')
+
+
 def lines():
     """All lines of these rows."""
     made = ["# names in the first record: too many, a missing one and one twice are told in this order"]
     made += [line for row in headers() for line in row]
+    made.append("# names that are not UTF-8 end the check, also where it keeps going")
+    made += [line for row in broken_names() for line in row]
     made.append("# records of fewer and more fields than the first, of which the last ones are empty or not")
     made += [line for row in widths() for line in row]
+    made.append("# 10,001 columns, where the plan bounds records and fields alone")
+    made += [line for row in widest() for line in row]
     made.append("# fields that are not UTF-8, empty or longer, where the check keeps going or ends")
     made += [line for row in fields() for line in row]
     made.append("# limits of a record and of a field: the first byte that passes one is told of, and the field first")
     made += [line for row in limits() for line in row]
     made.append("# a byte order mark is no part of the file: it counts in no record and in no field")
     made += [line for row in marked() for line in row]
+    made.append("# line ends of each kind in quotes, side by side and apart, before the first record and behind it")
+    made += [line for row in ends() for line in row]
     made.append("# a quote that stays open, behind line ends of each kind and two of them")
     made += [line for front in ("".join(ends) for count in (1, 2) for ends in product(ENDS, repeat=count))
              for line in of_open_quote(front)]

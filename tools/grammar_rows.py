@@ -139,6 +139,12 @@ def words(letters, sizes):
     return ["".join(word) for size in sizes for word in itertools.product(letters, repeat=size)]
 
 
+def at_places(labels, other, most=4):
+    """Each label at each place of a name of up to so many, the other label at all others."""
+    places = [(before, behind) for before in range(most) for behind in range(most - before)]
+    return [".".join([other] * before + [label] + [other] * behind) for label in labels for before, behind in places]
+
+
 def rows_of(*parts):
     """The rows that each of these functions makes, in their order."""
     return itertools.chain.from_iterable(part() for part in parts)
@@ -439,6 +445,12 @@ def addresses_of_six():
              "1.2.3.256", "1.2.3", "1.2.3.4.5", "1.2.3.4:5", "1.2.3.4:", "1.2.3.4::", "102:304")
     for front, last in itertools.product(fronts, lasts):
         yield front + last
+    for last in addresses_of_four():
+        yield from (f"::{last}", f"1:2:3:4:5:6:{last}")
+    for group in ("0", "0000", "00001", "0a", "abcd", "ABCD", "12345", "g", "", " 1"):
+        for size, form in ((8, "{}"), (2, "::{}"), (2, "{}::"), (6, "::{}"), (6, "{}::")):
+            rows = [":".join([*["1"] * at, group, *["2"] * (size - at - 1)]) for at in range(size)]
+            yield from (form.format(row) for row in rows)
 
 
 def addresses_of_four():
@@ -473,8 +485,15 @@ LIKE_ASCII = ("\u0080\u00a0\u00aa\u00b7\u00c0\u00d7\u00e9\u00ff\u0130\u0131\u017
               "\uff0d\uff10\uff21\uff41\uff0e\ufeff\U0001d7d8")
 
 
+# Labels in ASCII, right and wrong ones, each of which may stand at any place of a name.
+PLACED = ["a", "0", "12", "A", "aB", "b-c", "a" * 63, "ab-c", "ab--c", "1a", "-a", "a-", "-", "a" * 64, "", "a_b", "_a",
+          "a_", "a b", "a$", "\u00e9"]
+
+
 def host_name_rows():
     """Host names of RFC 1034, and the labels at the front of texts."""
+    yield "a rule of a label holds at each place of a name: the first, the second, the third and the last"
+    yield texts("hostname of RFC 1034", at_places(PLACED, "a"), whole(NAME))
     yield "lengths to 1,000"
     yield counts("hostname of RFC 1034", "a", 1, 63, 1001, [["", ""], ["", ".b"], ["b.", ""]])
     yield counts("hostname of RFC 1034", "1.", 0, 126, 501, [["", "a"]])
@@ -506,7 +525,7 @@ def uuid_rows():
     yield "UUIDs"
     uuid = "f81d4fae-7dec-11d0-a765-00a0c91e6bf6"
     notations = [uuid, uuid.upper(), f"{{{uuid}}}", f"urn:uuid:{uuid}", uuid.replace("-", "")]
-    spoilt = [uuid[:at] + other + uuid[at + 1:] for at in range(36) for other in "0aAfFgG-/:@`"]
+    spoilt = [uuid[:at] + other + uuid[at + 1:] for at in range(36) for other in "0aAfFgG-/:@` _."]
     shorter = [uuid[:at] + uuid[at + 1:] for at in range(36)]
     longer = [uuid[:at] + "0" + uuid[at:] for at in range(37)]
     yield texts("uuid", notations + around(uuid) + spoilt + shorter + longer, whole(UUID))
@@ -737,6 +756,12 @@ def mail_rows():
     yield texts("email", padded, never)
     yield texts("idn-email", padded, never)
     yield from wide_character_rows()
+    yield "a rule of a label holds at each place of a domain: the first, the second, the third and the last"
+    names = at_places(PLACED + ["xn--a", "xn--bcher-kva"], "b")
+    yield texts("email", [f"a@{name}" for name in names], is_mailbox)
+    forms = PLACED + PLACED_FORMS
+    names += at_places(forms, "b", 3) + at_places(forms, "\u00fc", 3)
+    yield texts("idn-email", [f"a@{name}" for name in dict.fromkeys(names)], is_any_mailbox)
     yield "what other programs pass over, put around a text or take for a character of it"
     for of, rule in (("email", is_mailbox), ("idn-email", is_any_mailbox)):
         yield decorated_row(of, ("a.b+c@d-e.f", '"a b"@c.d', "a@[IPv6:1::2]", "a@[1.2.3.4]", "a@[b-c:d]"), rule)
@@ -834,10 +859,10 @@ def ends(ranges):
 URI_PLACES = {
     "iri": [["a://", "b@c"], ["a://b:", "c@d"], ["a://b", ""], ["a://", ":8"], ["a://b@", "/"], ["a://b/", "c"],
             ["a:/", ""], ["a:", ""], ["a:b", "/c"], ["a:?", ""], ["a:?b", "#"], ["a:#", ""], ["a:#b", "c"],
-            ["a://[v1.", "]"], ["a", ":b"], ["a://b:8", ""]],
+            ["a://[v1.", "]"], ["a", ":b"], ["a://b:8", ""], ["a://b:c", "@d"]],
     "iri-reference": [["//", "b@c"], ["//b:", "c@d"], ["//", ""], ["//b@", ":8"], ["/", ""], ["//b/c/", ""], ["", ""],
                       ["b", "/c"], ["b/", ""], ["?", ""], ["?b", "#c"], ["#", ""], ["#b", ""], ["b/c:", ""],
-                      ["a:?b", ""]],
+                      ["a:?b", ""], ["//b:c", "@d"]],
 }
 
 
@@ -864,7 +889,8 @@ def uri_character_rows():
     for of, places in URI_PLACES.items():
         for before, behind in places[:13]:
             accepted = accepted_between(URI_RULES[of], ASCII, before + filled, filled + behind)
-            yield characters(of.replace("iri", "uri"), accepted, [[before + filled, filled + behind]])
+            for asked in (of, of.replace("iri", "uri")):
+                yield characters(asked, accepted, [[before + filled, filled + behind]])
 
 
 def uri_length_rows():
@@ -1025,6 +1051,17 @@ def template_rows():
     yield counts("uri-template", "a.", 0, 500, 501, [["{", "b}"], ["{?b,", "c:10}"]])
     yield counts("uri-template", "a,", 0, 500, 501, [["{", "b}"], ["{&", "b*}"]])
     yield counts("uri-template", "%4a", 0, 330, 331, [["", ""], ["{a", "}"]])
+    yield "a rule of a variable holds in each of three, and in each of two expressions"
+    variables = ["a", "a-b", "%41", "a%4a", "a.b", "a..b", ".a", "a.", "a:1", "a:10", "a:9999", "a:10000", "a:0",
+                 "a:01", "a*", "a:1*", "a*:1", "a_b", "_a", "1a", "1", "+a", "?a", " a", "a ", "a$b", "$a", "A",
+                 "%c3%A9", "%4", "%", "", "\u00e9", "a~", "a=b", "*", ":1"]
+    lists = [",".join(["b"] * before + [it] + ["b"] * behind) for it in variables for before in range(3)
+             for behind in range(3 - before)]
+    forms = ("{{{0}}}", "{{?{0}}}", "{{b}}{{{0}}}", "{{{0}}}{{b}}", "{{+b,b}}c{{;{0}}}")
+    yield texts("uri-template", in_forms(forms, lists), is_template)
+    yield "a character stands in a literal before the first expression as behind the last, and between two"
+    for before, behind in (("", "{a}"), ("b", "{a}"), ("{a}", ""), ("{a}b", "c"), ("{a}b", "{c}"), ("{a}{b}", "c")):
+        yield characters("uri-template", accepted_between(is_template, ASCII, before, behind), [[before, behind]])
     yield "what stands around a template"
     wholes = ("a", "{a}", "a{b}", "{a}b", "%41", "", "'")
     yield texts("uri-template", [other for text in wholes for other in [text, *around(text)]], is_template)
@@ -1083,6 +1120,15 @@ def pointer_rows():
     yield counts("relative-json-pointer", "/a", 0, 500, 501, [["0", ""], ["12", "/"]])
     yield texts("json-pointer", ["/18446744073709551616", "/00000000000000000000", "/a/99999999999999999999/b", "/-0"],
                 whole(f"(?s:{POINTER})"))
+    yield "a rule of a token holds in each of three"
+    tokens = ["", "a", "~0", "~1", "~", "~2", "~a", "a~", "~~", "~0~1", "~01", "0", "00", "01", "-", "%", "%2F", "#",
+              '"', "\\", " ", "\t", "\u007f", "\u0080", "\u00e9", "?", "~/", "~0a~", "~10"]
+    in_three = ["".join(f"/{token}" for token in some) for token in tokens for other in ("a", "")
+                for some in ([token, other, other], [other, token, other], [other, other, token], [token, other],
+                             [other, token])]
+    yield texts("json-pointer", in_three, whole(f"(?s:{POINTER})"))
+    yield texts("relative-json-pointer", in_forms(("0{}", "12{}"), in_three),
+                whole(rf"(?s:(?:0|[1-9][0-9]*)(?:#|{POINTER}))"))
     numbers = ["0/01", "1/00", "2/-1", "3/1e5", "18446744073709551616/0", "99999999999999999999#"]
     yield texts("relative-json-pointer", numbers, whole(rf"(?s:(?:0|[1-9][0-9]*)(?:#|{POINTER}))"))
     yield decorated_row("relative-json-pointer", ("0#", "12/a~1b", "3"),
@@ -1164,6 +1210,16 @@ def by_trial(of, text):
     return sample.hex() if again == (text.upper() if of == "base16" else text) else None
 
 
+def letters_by_place(of):
+    """A code of three blocks, and the same with another letter, sign or padding at each place."""
+    encode, block = ENCODERS[of]
+    for sample in (b"\x9a\xbc\xdefoobar~>?klm", b"\xfb\xff\xbf\x00\x10\x83\x14\xc5\x41\xab\xcd\xef\x99\x77\x55"):
+        text = encode(sample).decode()[:3 * block]
+        for at, letter in enumerate(text):
+            others = {letter.swapcase(), letter.lower(), letter.upper(), *"aAfFzZ0189+/-_=. \n", "\u00e9"}
+            yield from (text[:at] + other + text[at + 1:] for other in sorted(others))
+
+
 def single_bytes():
     """One byte that is not zero, at each place of up to six."""
     values = (1, 2, 3, 4, 7, 8, 15, 16, 31, 32, 63, 64, 65, 127, 128, 129, 191, 192, 254)
@@ -1219,6 +1275,10 @@ def coding_rows():
         wholes = [encode(sample).decode() for sample in (b"foobar", b"foob", b"fooba")]
         tried = dict.fromkeys(other for text in wholes for other in [text, *decorated(text)])
         yield decoded(of, [[text, by_trial(of, text)] for text in tried])
+    yield ("letters of the other case and of other alphabets, and signs, at each place of the first, a second and the "
+           "last block")
+    for of in ENCODERS:
+        yield decoded(of, [[text, by_trial(of, text)] for text in dict.fromkeys(letters_by_place(of))])
     yield "one byte that is not zero"
     for of, (encode, _) in ENCODERS.items():
         yield decoded(of, [[encode(sample).decode(), sample.hex()] for sample in single_bytes()])
@@ -1241,6 +1301,28 @@ ANALYSES = [
     ["^(a|b$)", "none"], ["^\\(a\\)$", "exact (a)"], ["^a|b$", "none"], ["^a\\|b$", "exact a|b"]]
 
 
+# An item: a letter, a digit, a space or one of these marks, or a backslash before a SyntaxCharacter of ECMA-262 or `/`.
+ITEM = r"(?:[A-Za-z0-9 _/:@#%&=,;~!'\"<>-]|\\[\^$\\.*+?()\[\]{}|/])"
+
+
+def analysis(pattern):
+    """Which literal a pattern stands for, but for the one without white space."""
+    found = re.fullmatch(rf"\^(?:(?P<run>{ITEM}+)(?P<end>\$?)|\((?P<some>{ITEM}+(?:\|{ITEM}+)*)\)\$)", pattern)
+    if found is None:
+        return "none"
+    runs = [re.sub(r"\\(.)", r"\1", run) for run in re.findall(f"{ITEM}+", found["run"] or found["some"])]
+    kind = "alternation" if found["some"] else "exact" if found["end"] else "prefix"
+    return f"{kind} " + "\u00b7".join(sorted(runs))
+
+
+def placed_items():
+    """Each character of ASCII, as it is and behind a backslash, at each place of each form of a literal."""
+    forms = ("^{}", "^{}a", "^a{}", "^a{}b", "^{}$", "^{}a$", "^a{}$", "^({})$", "^({}a|b)$", "^(a{}|b)$", "^(b|{}a)$",
+             "^(b|a{})$", "^(a|b|{})$")
+    for sign in ASCII:
+        yield from (form.replace("{}", item) for form in forms for item in (sign, f"\\{sign}"))
+
+
 def literal_rows():
     """What whole literals and prefixes match, and what they do not."""
     for pattern, literal in (("^ab$", "ab"), ("^aB\\.c$", "aB.c"), ("^a b$", "a b")):
@@ -1260,6 +1342,8 @@ def pattern_rows():
     """The rows of literal patterns."""
     yield "literal patterns with line feeds, with both letter cases, and with a byte order mark"
     yield analyses(ANALYSES)
+    yield "each character of ASCII, plain and escaped, at each place of each form"
+    yield analyses([[pattern, analysis(pattern)] for pattern in dict.fromkeys(placed_items())])
     yield "characters past ASCII make no literal pattern, alone or behind a backslash, and no length is too great"
     forms = ("^{}", "^\\{}", "^a{}", "^{}$", "^a\\{}$", "^({}|a)$", "^(a|\\{})$", "^(a{}|b)$")
     wide = "\u0080\u00a0\u00aa\u00b5\u00e9\u00ff\u0430\u4e00\uff41\U0001d41a"
@@ -1402,7 +1486,7 @@ def digit_rows():
     digits = [chr(at) for at in (0x660, 0x661, 0x669, 0x6F0, 0x6F1, 0x6F9)] + ["a", "\u0628"]
     has_one, has_other = re.compile("[\u0660-\u0669]").search, re.compile("[\u06f0-\u06f9]").search
     labels = words(digits, (1, 2, 3)) + words(digits[::2], (4,))
-    beside = [chr(at) for at in (0x65F, 0x660, 0x669, 0x66E, 0x6EF, 0x6F0, 0x6F9, 0x6FA)]
+    beside = [chr(at) for at in (0x65F, *range(0x660, 0x66A), 0x66E, *range(0x6EE, 0x6FD))]
     labels += [f"\u0628{one}{other}" for one in beside for other in beside]
     yield texts("label", labels, lambda text: not (has_one(text) and has_other(text)))
 
@@ -1883,7 +1967,7 @@ def context_rows_of_idn():
            "(RFC 5892, appendix A)")
     for rule in CONTEXTS + JOINERS + APART:
         yield idn_texts(words(rule, (1, 2, 3, 4)))
-    digits = [chr(at) for at in (0x65F, 0x660, 0x661, 0x668, 0x669, 0x66A, 0x6EF, 0x6F0, 0x6F1, 0x6F8, 0x6F9, 0x6FA)]
+    digits = [chr(at) for at in (*range(0x65F, 0x66B), *range(0x6EF, 0x6FB))]
     yield idn_texts([f"\u0628{one}{other}" for one in digits for other in digits])
     yield ("joining types: with a dual-joining letter on the one side, each of a transparent mark and an end of a type "
            "on the other")
@@ -1933,6 +2017,13 @@ RIGHT_FORMS = [
     "\u06f00", "xn\u00fc", "\u00fcxn--a"]
 PAYLOADS = ["-", "--", "---", "-a", "a-", "a--", "kva", "99999999", "9999a", "a9999a", "-kva", "bcher--kva",
             "bcher-kvab", "0", "z", "zz", "00000", "hb9b", "ib9b", "0y0c"]
+
+
+# Those past ASCII, and geresh and gershayim behind what is not Hebrew and runs from right to left too: they may stand at
+# any place of a name.
+PLACED_FORMS = [form for form in WRONG_FORMS + RIGHT_FORMS if not form.isascii()]
+PLACED_FORMS += ["\u05f3", "\u0628\u05f3", "\u05d0\u05f3\u05f3"]
+PLACED_FORMS += ["\u05f4", "a\u05f4", "\u0628\u05f4", "\u05d0\u05f3\u05f4"]
 
 
 def beside_a_label(label):
@@ -2084,11 +2175,24 @@ def u_label_rows():
     yield texts("u-label", labels_about_63() + ["\u4e00" * count for count in range(1, 70)], is_u_label)
 
 
+def placed_label_rows():
+    """Labels of each kind at each place of a name."""
+    yield "a rule of a label holds at each place of a name: the first, the second, the third and the last"
+    labels = {form: bool(is_name_of_plain_labels(form)) for form in PLACED}
+    for form in PLACED_FORMS:
+        labels[to_a_label(form)] = bool(whole(LABEL)(to_a_label(form))) and is_hostname_form(form)
+    rights = {name: is_right for label, is_right in labels.items() for name in at_places([label], "a")}
+    yield texts("hostname", rights, rights.get)
+    for other in ("a", "\u00fc"):
+        yield idn_texts(at_places(PLACED, other))
+        yield idn_texts(at_places([*PLACED_FORMS, *map(to_a_label, PLACED_FORMS)], other, 3))
+
+
 def idn_rows():
     """The rows of internationalised host names."""
     yield "internationalised host names: RFC 5890 to 5893"
     yield from rows_of(permission_rows, normal_form_rows, label_rules_of_idn, context_rows_of_idn, bidi_rows_of_idn,
-                       a_label_rows, size_rows, u_label_rows, hostname_form_rows, mail_label_rows)
+                       a_label_rows, size_rows, u_label_rows, hostname_form_rows, mail_label_rows, placed_label_rows)
     yield ("all code points, by the derived property of another edition of Unicode: between two letters of either "
            "direction; of the first 131,072 first, last and beside the characters that have contextual rules")
     yield from (idn_sums(before, behind) for before, behind in WIDE_PLACES)
@@ -3588,14 +3692,18 @@ NEEDLESSLY_ESCAPED = "!\"#%&',-:;<=>@_`~"
 NOT_TAKEN = "it is no pattern of ECMA-262 in Unicode mode, or of a part of it that is not taken here"
 
 
+def needless(character):
+    """What is told of a character that stands for itself behind a backslash without the flag `u` alone."""
+    return f"\\{character} is valid only without the flag u: write {character} for it"
+
+
 def refusal_rows():
     """Patterns by why they are not taken, and some that are."""
     yield "why patterns are not taken"
     forms = ("\\{}", "a\\{}b", "(a)\\{}", "(?:\\{})", "a|\\{}")
     yield refusals("it has a back reference", in_forms(forms, "123456789k"))
     for character in NEEDLESSLY_ESCAPED:
-        why = f"\\{character} is valid only without the flag u: write {character} for it"
-        yield refusals(why, in_forms(forms, character))
+        yield refusals(needless(character), in_forms(forms, character))
     yield refusals(NOT_TAKEN, [f"[\\{character}]" for character in NEEDLESSLY_ESCAPED if character != "-"])
     yield refusals(NOT_TAKEN, in_forms(forms, "agyzAGYZ \u00e9\n"))
     told = SYNTAX + NEEDLESSLY_ESCAPED + DIGITS + "bBdDfknrsStvwW"
@@ -4521,12 +4629,223 @@ def edge_character_rows():
                     for pattern in patterns for text in ("", "\ufeff", "\ufeffa", "a", "a\ufeff")])
 
 
+# Names of groups that are nearly alike: in another letter case, normal form, width or script, by the same last bits of
+# their characters, or with what is hardly seen.
+NEAR_NAMES = (
+    "a", "A", "\u00e1", "\u00c1", "a\u0301", "a\u0300\u0301", "a\u0301\u0300", "\u00aa", "\uff41", "\U0001d51e",
+    "\u0430", "\u0410", "a\u200c", "a\u200d", "a\ufe0f", "a1", "a\u0661", "a_", "$a", "s", "\u017f", "k", "\u212a",
+    "\u00df", "\u1e9e", "ss", "i", "\u0131", "\u0130", "\u03c3", "\u03c2", "\u03a3", "\ufb01", "fi", "\U00010428",
+    "\U00010400", "\u0428", "\u0400")
+# Code points above the greatest, the last by as many bits as 16, 32 and 64 as a character.
+FAR_POINTS = [0x110000, 0x110041, 0x11FFFF, 0x200041, 0x1000041, 0x10000041, 0x80000041] + [
+    (1 << bits) + off for bits in (32, 33, 36, 64, 128) for off in (-1, 0, 0x41, 0x1F600)]
+# Numbers at the ends of bits, and with one digit more.
+NUMBERS_AT_ENDS = [0, 1, 2, 9, 10, 99, 100, 999, 1000] + [
+    (1 << bits) + off for bits in (16, 31, 32, 53, 64) for off in (-1, 0, 1)] + [10 ** 20 - 1, 10 ** 20, 10 ** 20 + 1]
+
+
+def all_escaped(name):
+    """The name with each character by the escape of its code."""
+    return "".join(map(escaped, name))
+
+
+def near_name_rows():
+    """Names of groups that are nearly alike, and characters of names in the whole grammar."""
+    yield ("names of groups that are nearly alike are others: a name is its code points (22.2.1, GroupName), in no "
+           "normal form and no letter case")
+    pairs = list(itertools.product(NEAR_NAMES, repeat=2))
+    forms = {"(?<{}>x)(?<{}>y)": str, "(?<{}>x|(?<{}>y))": all_escaped}
+    for of in (PATTERNS, WHOLE_PATTERNS):
+        twice = {form.format(one, spell(other)): one != other for one, other in pairs for form, spell in forms.items()}
+        yield texts(of, twice, twice.get)
+    asked = {"(?<{}>x)\\k<{}>": str, "\\k<{}>(?<{}>x)": all_escaped}
+    known = {form.format(one, spell(other)): one == other for one, other in pairs for form, spell in asked.items()}
+    yield texts(WHOLE_PATTERNS, known, known.get)
+    yield "the whole grammar: characters first in names and behind, those of ID_Start and ID_Continue among them"
+    firsts, behind = [["(?<", ">x)"], ["(?<", "b>x)"]], [["(?<a", ">x)"], ["(?<a", "b>x)"], ["(?<$", ">x)"]]
+    yield characters(WHOLE_PATTERNS, NAME_STARTS, firsts, NAME_CHARACTERS)
+    yield characters(WHOLE_PATTERNS, NAME_PARTS, behind, NAME_CHARACTERS)
+    for before, accepted in (("", NAME_STARTS + "a$_"), ("a", NAME_PARTS + "a0$_")):
+        spelled = [(one, spell(one)) for one in NAME_CHARACTERS + "a0$_- " for spell in (str, escaped)]
+        expected = {f"(?<{before}{written}>x)\\k<{before}{one}>": one in accepted for one, written in spelled}
+        yield texts(WHOLE_PATTERNS, expected, expected.get)
+    first, further = (lambda point: is_name_start(point) or chr(point) in "=!",
+                      lambda point: is_name_part(point) or chr(point) == ">")
+    yield sums(WHOLE_PATTERNS, [["(?<", ">x)"]], first, 0x100, 0x3100)
+    yield sums(WHOLE_PATTERNS, [["(?<a", ">x)"]], further, 0x100, 0x3100)
+
+
+def far_number_rows():
+    """Code points and counts that no number of so many bits has."""
+    yield "code points in braces above the greatest, however far, in a pattern, a class and a name"
+    forms = ("\\u{{{}}}", "[\\u{{{}}}]", "[a-\\u{{{}}}]", "(?<\\u{{{}}}>x)", "(?<a\\u{{{}}}>x)")
+    for of in (PATTERNS, WHOLE_PATTERNS):
+        written = [f"{zeros}{point:x}" for point in FAR_POINTS for zeros in ("", "00")]
+        yield texts(of, in_forms(forms, written), never)
+        yield texts(of, in_forms(forms, [f"{zeros}61" for zeros in ("", "0", "0" * 6, "0" * 30)]), lambda text: True)
+    yield "counts far above the greatest, which are small ones by as many bits as 31, 32 or 64"
+    far = [(1 << bits) + off for bits in (31, 32, 33, 63, 64, 128) for off in (0, 1, 2, 1000)]
+    forms = ("a{{{}}}", "a{{{},}}", "a{{0,{}}}", "a{{1,{}}}?", "(?:ab){{{}}}", "(?=a{{{}}})", "(?:a|b{{2,{}}})")
+    yield texts(PATTERNS, in_forms(forms, far), never)
+    yield "the whole grammar: counts at the ends of 16, 31, 32, 53 and 64 bits, with zeros before them"
+    counts = {}
+    for (one, other), (zeros, others) in itertools.product(itertools.product(NUMBERS_AT_ENDS, repeat=2), (
+            ("", ""), ("000", ""), ("", "0" * 20))):
+        counts[f"a{{{zeros}{one},{others}{other}}}"] = one <= other
+    yield texts(WHOLE_PATTERNS, counts, counts.get)
+
+
+# What makes no pattern behind a reason, which is told all the same; and what may stand far before one.
+BROKEN_BEHIND = ("(", ")", "[", "]", "*", "\\", "(?", "(?<n", "a{", "a{2,1}", "[b-a]", "\\u{", "\\p{", "a**", "\\00")
+FAR_BEFORE = (
+    "a" * 1600, "a" * 300, "\n", "a\r\n\n", "(?:a)" * 300, "(" * 200, "(a|b)|" * 200, "[^a-z]" * 250,
+    "\\u{1F600}" * 150, "\\p{Lu}" * 200, "a*?b{2,3}" * 150, "(?<m>a)\n(?<l>\\n)", "(?=a)(?<!b)" * 100)
+
+
+def far_reason_rows():
+    """Reasons before and behind what else is wrong, and far from the beginning."""
+    yield "each reason before what makes no pattern, and behind many terms that do: it is what stands first"
+    for piece, why in REASONS.items():
+        if why != NOT_TAKEN:
+            yield refusals(why, [f"{piece}{behind}" for behind in BROKEN_BEHIND])
+            yield refusals(why, [f"{before}{piece}" for before in FAR_BEFORE])
+            if "(" not in piece:
+                yield refusals(why, [f"{'(' * groups}{piece}" for groups in (1, 249, 250)])
+    yield "a count is above the greatest whatever stands behind its digits"
+    counts = ("a{1001", "a{1001,", "a{0,1001", "a{1001 }", "a{1001;2}", "a{10011", "a{1001,1", "a{1,1001a}",
+              "(a{1001|b")
+    yield refusals("it has a count above 1000", counts)
+    yield "of two characters that stand for themselves without the flag `u` the first is told"
+    for one in NEEDLESSLY_ESCAPED:
+        others = [f"\\{one}\\{other}" for other in NEEDLESSLY_ESCAPED + "19k"]
+        yield refusals(needless(one), [*others, *(f"(?:\\{one})|b\\{other}" for other in NEEDLESSLY_ESCAPED)])
+
+
+# Characters that are hardly seen, or make one sign with others, and pieces of several characters.
+OF_LENGTHS = (" ", "\t", "\n", "\r", "\u2028", "\u0301", "\u0903", "\u200d", "\ufe0f", "\ufeff", "\u1100", "\U0001f1e6",
+              "\r\n", "\\.", "[]", "()", "\\x41", "[^a]")
+
+
+def length_rows():
+    """What counts for the length of a pattern."""
+    yield "each character counts for the length: blanks, ends of lines, marks, what joins, and each of an escape"
+    for more, why in enumerate(("taken", "it has more than 2000 characters")):
+        long = [[[piece, 2000 // len(piece)], ["a", more]] for piece in OF_LENGTHS]
+        long += [[["a", 2000 - len(piece) + more], [piece, 1]] for piece in OF_LENGTHS]
+        long += [[[piece, 1], ["a", 2000 - len(piece) + more]] for piece in OF_LENGTHS]
+        yield {"ask": "refusals", "of": why, "long": [{"pattern": pattern} for pattern in long]}, len(long)
+
+
+def off_name_rows():
+    """Names of properties that have values, one letter off, and characters past ASCII where one of ASCII may stand."""
+    yield "names of General_Category, Script and Script_Extensions one letter off, before a value of each"
+    names = {"General_Category", "gc", "Script", "sc", "Script_Extensions", "scx"}
+    off = sorted({spoilt for name in names for spoilt in one_letter_off(name)} - names)
+    for of in (PATTERNS, WHOLE_PATTERNS):
+        yield texts(of, in_forms(("\\p{{{}=Lu}}", "\\p{{{}=Latn}}", "[\\P{{{}=Greek}}]"), off), never)
+    binaries = [name for names in BINARIES for name in names.split("/")] + ["Changes_When_NFKC_Casefolded", "CWKCF"]
+    for prefix in ("gc", "General_Category"):
+        yield texts(WHOLE_PATTERNS, [f"\\p{{{prefix}={name}}}" for name in binaries], never)
+    yield "characters past ASCII in the braces of a property, behind a backslash and behind a back reference"
+    wide = "\u00e9\u017f\u212a\u0391\u0661\uff11\uff2c\u4e00\U0001d7ce\U00010400"
+    forms = ("\\p{{{}}}", "\\p{{L{}}}", "[\\P{{gc={}}}]", "\\p{{{}=Lu}}", "\\{}", "[\\{}]")
+    yield refusals(NOT_TAKEN, in_forms(forms, wide))
+    forms = {"(a)\\1{}": True, "(a)\\{}": False, "\\k<{}>(?<{}": False, "(?<a>)\\k{}a>": False}
+    expected = {form.format(one, one): is_right for one in wide for form, is_right in forms.items()}
+    yield texts(WHOLE_PATTERNS, expected, expected.get)
+
+
+# Characters that are shown on the one before, or join it with the next.
+JOINED = "\u00ad\u0300\u0301\u036f\u0483\u05b0\u0903\u20dd\u2019\u200c\u200d\u2060\ufe0f\ufeff\U0001f3fb\U000e0100"
+
+
+def joined_edge_rows():
+    """Word boundaries beside marks and what joins."""
+    yield "a mark is no word character, and neither is what joins or what an emoji bears (22.2.2.3.2)"
+    found = {"^a\\b{}": "a{}", "^{}\\ba": "{}a", "^{0}\\B{0}$": "{0}{0}", "^\\B{}\\B$": "{}", "^a\\W$": "a{}",
+             "^\\w\\b{}\\b\\w$": "a{}b", "^ \\B{}\\B $": " {} "}
+    lacked = {"^a\\B{}": "a{}", "^{}\\Ba": "{}a", "^{0}\\b{0}$": "{0}{0}", "^\\b{}": "{}", "^a\\w$": "a{}",
+              "{}\\b$": "a{}", "^\\w+$": "a{}b", "\\w{}\\B": "a{}b"}
+    rows = []
+    for forms, is_found in ((found, True), (lacked, False)):
+        rows += [[form.format(one), text.format(one), is_found] for one in JOINED for form, text in forms.items()]
+    yield searches(rows)
+
+
+def deep_rows():
+    """Patterns of the whole grammar that are deeper, or have longer parts, than 16 bits count."""
+    yield "the whole grammar: groups and look-arounds deeper than 65,536, and parts of more characters than that"
+    right, wrong, many = [], [], 70_000
+    for opening in ("(", "(?:", "(?=", "(?<!"):
+        right.append([[opening, many], ["a", 1], [")", many]])
+        wrong.append([[opening, many], ["a", 1], [")", many - 1]])
+    right += [[["a", 2 * many]], [["[", 1], ["a-b", 25_000], ["]", 1]], [["(?<", 1], ["a", many], [">x)", 1]],
+              [["a{", 1], ["0", many], ["2,", 1], ["0", many], ["3}", 1]], [["\\u{", 1], ["0", many], ["41}", 1]],
+              [["a|", many]], [["(?<", 1], ["a", many], [">x)\\k<", 1], ["a", many], [">", 1]]]
+    wrong += [[["a", 2 * many], ["]", 1]], [["[", 1], ["a-b", 25_000], ["b-a]", 1]],
+              [["(?<", 1], ["a", many], ["->x)", 1]], [["\\u{", 1], ["1", many], ["}", 1]],
+              [["a{", 1], ["0", many], ["3,", 1], ["0", many], ["2}", 1]],
+              [["a|", many], ["*", 1]], [["(?<", 1], ["a", many], [">x)\\k<", 1], ["a", many - 1], [">", 1]],
+              [["()\\1", 1], ["0", many]], [["\\p{", 1], ["L", many], ["}", 1]]]
+    yield {"ask": "long texts", "of": WHOLE_PATTERNS, "yes": right, "no": wrong}, len(right) + len(wrong)
+
+
+# Patterns with a lookahead behind `^`, but in one of several alternatives, in a group, or in what may be missing.
+FRONTS_WITHIN = (
+    "b|^{}a", "^{}a|b", "^a|^{}b", "^{}a|^b$", "(?:^{}a|b)$", "^(?:{}a|b)", "(?:^{})?a", "(?:^|a){}b", "(^{}|b)a",
+    "a(?:^{}b)?", "^{}|b$", "^(?:a|{})b", "b?^{}", "(?:b|){}a", "^|{}b", "(?:^{}a)*b", "(?:^{}){{2}}a", "(?=^{}a|b)")
+
+
+def front_within_rows():
+    """Lookaheads behind `^` that are not at the front of the whole pattern."""
+    yield ("a lookahead behind `^` in one of several alternatives, in a group or in what may be missing, in each "
+           "text of a and b")
+    rows = []
+    for form, look in itertools.product(FRONTS_WITHIN, ("(?=ab)", "(?!ab)", "(?=a*b)", "(?!.*b)", "(?=ba|ab)")):
+        pattern = form.format(look)
+        rows += [[pattern, word, re.search(pattern, word) is not None] for word in words("ab", range(4))]
+    yield searches(rows)
+
+
+# A name, an equals sign and a value, but with a sign more, fewer or another.
+SIGNS_OF_VALUES = (
+    "{}={}=", "{}=={}", "={}={}", "{0}={1}={1}", "{}={}=Y", "{}{}=", "{}:{}", "{}!={}", "{}~{}", "{} = {}", "{}={};",
+    "{}={}|", "^{}={}", "{}=^{}", "{}=[{}]", "{0}={1},{1}", "{}=/{}/", "{}.{}", "{}\u2260{}")
+
+
+def value_sign_rows():
+    """What stands between the name of a property and its value."""
+    yield "one equals sign stands between the name of a property and its value (22.2.1, UnicodePropertyValueExpression)"
+    valued = (("gc", "Lu"), ("General_Category", "L"), ("sc", "Latn"), ("Script", "Greek"))
+    written = [form.format(*pair) for pair in (*valued, ("scx", "Latn")) for form in SIGNS_OF_VALUES]
+    for of in (PATTERNS, WHOLE_PATTERNS):
+        yield texts(of, in_forms(("\\p{{{}}}", "[\\P{{{}}}]"), written), never)
+        yield texts(of, [f"\\p{{{name}={value}}}" for name, value in valued], lambda text: True)
+
+
+# Loops and look-behinds that stand within a loop.
+WITHIN_LOOPS = (
+    "(?:ab)+", "(?:ab)*", "(?:ab)?", "(?:a|ba)+", "(?:(?:ab)+b)*", "(?<=a)", "(?<=)", "(?<!ab)", "(?:(?<=b)a)+")
+
+
+def inner_loop_rows():
+    """Loops within loops, each of a group."""
+    yield "a loop of a group, or a look-behind, within a loop of a group, with terms beside it, in each text of a and b"
+    beside, rows = (("a", ""), ("", "b"), ("a", "b"), ("b?", "")), []
+    for inner, (before, behind), outer in itertools.product(WITHIN_LOOPS, beside, ("*", "+", "{2}")):
+        pattern = f"^(?:{before}{inner}{behind}){outer}$"
+        rows += [[pattern, word, re.search(pattern, word) is not None] for word in words("ab", range(5))]
+    yield searches(rows)
+
+
 def ecma_rows():
     """The rows of patterns of ECMA-262."""
     return rows_of(escape_rows, name_rows, class_rows, member_rows, look_rows, ahead_rows, limit_rows, property_rows,
                    whole_rows, whole_property_rows, character_rows, place_rows, needed_rows, many_rows,
                    repeated_count_rows, never_rows, large_rows, placed_reason_rows, class_member_rows, set_pair_rows,
-                   placed_term_rows, placed_piece_rows, reading_rows, reference_rows, edge_character_rows)
+                   placed_term_rows, placed_piece_rows, reading_rows, reference_rows, edge_character_rows,
+                   near_name_rows, far_number_rows, far_reason_rows, length_rows, off_name_rows, joined_edge_rows,
+                   deep_rows, front_within_rows, value_sign_rows, inner_loop_rows)
 
 
 # JSON: RFC 8259, as Python's json reads it, and as serde_json does a number out of the range of 64 bits (IEEE 754).

@@ -360,6 +360,14 @@ def limits_of_64_bits():
             yield asked(draft, {"minLength": limit}, ["ab"])
             yield asked(draft, {"minLength": limit, "maxLength": limit}, ["ab"])
             yield asked(draft, {"maxLength": limit}, ["ab"])
+    # The lengths that each entry leaves, alone and beside the other: from a limit, up to one, and between two.
+    ends = (0, 1, 2, 255, 256, 65535, 65536, 2 ** 31 - 1, 2 ** 31, 2 ** 32 - 1, 2 ** 32, 2 ** 53, 2 ** 53 + 1,
+            2 ** 63 - 1, 2 ** 63, 2 ** 63 + 1, MOST - 1, MOST)
+    for limit, keyword in product(ends, ("minLength", "maxLength")):
+        yield asked(7, {keyword: limit}, ["ab"], keyword=keyword)
+        yield asked(202012, {keyword: limit}, keyword=keyword)
+    for least, greatest in product(ends, repeat=2):
+        yield asked(7, {"minLength": least, "maxLength": greatest}, keyword="minLength")
 
 
 def good_beside_bad_limits():
@@ -834,6 +842,12 @@ def no_drafts():
         yield lined({**ONE_REQUEST, "draft": it})
     for it in ('7.0', '-7', '"7"', 'null', '[7]', '18446744073709551616'):
         yield asked(parsed(it), {"minLength": 5}, ["x"])
+    months = [year * 100 + month for year in range(2016, 2024) for month in range(14)]
+    for it in (*range(31), *range(2005, 2027), *months, 40, 60, 70, 912, 1220, 1909, 2012, 92019, 122020, 20190919,
+               20201210, 2019090, 2020120, 404, 606, 707, 2019092020, 201909202012):
+        if it not in DRAFTS and it not in NO_DRAFTS:
+            yield asked(it, {"minLength": 5}, ["x"])
+            yield lined({**ONE_REQUEST, "draft": it})
 
 
 # ---- requests
@@ -891,6 +905,10 @@ def lines_of_each_shape():
         yield made(compact({"input": [word]}), ["bad request", "end"])
     more = ("4", "6", "7", "8", "201909", "7e0", "70", "[7]", '"7"', '"true"', '"false"', "2")
     for name, shape in product(MEMBERS, [*SHAPES, *map(parsed, more)]):
+        yield lined({**ONE_REQUEST, name: shape})
+    flags = ("draft", "validate_formats", "ignore_unknown_formats", "fold")
+    words = ("yes", "no", "on", "off", "1", "0", "TRUE", "False", "null", " true", "")
+    for name, shape in product(flags, [*words, *map(parsed, ("[true]", "1.0", "-1"))]):
         yield lined({**ONE_REQUEST, name: shape})
     for name in OTHER_MEMBERS:
         for shape in map(parsed, ("true", "null", '"x"', "7", "{}")):

@@ -464,7 +464,9 @@ OTHER_CODECS = (
     "base91", "z85", "ascii85", "uuencode", "uu", "x-uue", "yenc", "binhex", "x-gzip", "deflate", "br", "zstd",
     "compress", "x-compress", "utf-8", "utf8", "ascii", "none", "raw", "text", "plain", "string", "json", "percent",
     "url", "uri", "punycode", "7BIT", "8BIT", "BINARY", "Identity", "Quoted-Printable", "qp", "ietf-token", "*",
-    "\u0062ase64\0", "base\u0436", "base64\n", "\ufeffbase64", "64", "6", "16")
+    "\u0062ase64\0", "base\u0436", "base64\n", "\ufeffbase64", "64", "6", "16", "base64url-nopad", "base64-nopad",
+    "base64_pad", "base64;url", "base64url;x", "base64+url", "base32HEX", "base32lower", "base32upper", "zbase32",
+    "base16;x", "radix-64", "pem", "us-ascii", "latin1", "urlencoded")
 OTHER_MEDIA_TYPES = (
     "application/json, text/plain", "application/json,application/xml", "text/plain, application/json",
     "application/json;q=1", "application/json;version=1", "application/json;profile=x", "application/json ;x=y",
@@ -480,7 +482,9 @@ OTHER_MEDIA_TYPES = (
     "text/uri-list", "text/calendar", "text/css", "image/svg+xml", "image/*", "text/*", "text", "plain",
     "application/json\n", "application/json\0", "\ufeffapplication/json", "application/\u0458son", "application\\/json",
     "application/json\t", "application:json", "application.json", "application-json", "application_json",
-    "\u0061pplication /json")
+    "\u0061pplication /json", "application/jose+json", "application/jwk+json", "application/senml+json",
+    "application/activity+json", "application/graphql+json", "application/reports+json", "application/csvm+json",
+    "application/vnd.oai.openapi+json", "model/gltf+json", "multipart/form-data", "application/sql")
 # JSON texts (RFC 8259), and texts that are none.
 JSON_TEXTS = ("{}", "[1]", "\"a\"", "null", " 1 ", "-0.5e2", "{\"a\":[true,{}]}", "0", "\t\r\n[ ]\n",
               "{\"a\":1,\"a\":2}", "\"\\u00e9\\/\"", "\"\u2028\x7f\"", "1E+2")

@@ -37,7 +37,7 @@ PLACES = ("", "/a", "/a/b", "/a/0", "/a/00", "/a/-", "/a/", "/*", "/a/*", "/a/*/
 DOCUMENTS = ({}, {"a": None}, {"a": False}, {"a": 0}, {"a": ""}, {"a": "x"}, {"a": "xx"}, {"a": []}, {"a": {}},
              {"a": ["xx", "y", None]}, {"a": [["xx"], [], "zz"]}, {"a": {"b": "xx"}},
              {"a": {"b": ["xx"], "c": {"b": "yy"}, "": "zz"}}, {"a": {"*": "xx", "-": "yy", "0": "zz", "a/b": "vv"}},
-             ["xx", {"a": "yy"}], "xx", None)
+             {"a": {" ": "ss", "$x": "xx", ".y": "yy", "_z": "zz", "\u00e4": "vv"}}, ["xx", {"a": "yy"}], "xx", None)
 # Members that are the plan's own, of which each place and document has the first four or the first and two others.
 OWN_OF_PLACES = ({}, {"optional": True}, {"string": True}, {"optional": True, "string": True},
                  {"optional": False, "string": False})
@@ -54,6 +54,12 @@ WRONG_OWN = {"columns": {"empty": ("1", '"empty" at {} is not "skip"')},
 # Characters that stand by their code in base 16, of the categories Cc, Cf, Zl and Zp, and some that stand as they are.
 HIDDEN = ("\u0085", "\u00ad", "\u2028", "\u2029", "\u202e", "\U000e0001")
 SHOWN = ("\u00a0", "\u3000", "\ue000", "\u0378")
+
+
+# Words that are no value of `duplicates` or of `empty`, and names that are no own member, as another author has them.
+WORDS = ("all", "any", "Each", "each ", "error", "refuse", "allow", "check", "ignore", "first", "last", "none", "null",
+         "Skip", "skip ", "skips", "pass", "true")
+NAMES = ("nullable", "must", "trim", "skip", "unique", "missing", "null", "blank", "strings", "Optional", "mandatory")
 
 
 class Number(str):
@@ -147,6 +153,51 @@ def of_plan(kind, **members):
     return [f'{{"plan":{text},{INPUTS[kind]}}}', told_of(kind, text)]
 
 
+def of_limits(kind):
+    """The rows of two limits, known or not, each with a right value or a wrong one."""
+    names = (*LIMITS["columns"], *LIMITS["places"], "zz")
+    for pair in combinations(names, 2):
+        for first, second in product(("9", "-1", "null", '"1"'), repeat=2):
+            yield of_plan(kind, limits=f'{{"{pair[1]}":{second},"{pair[0]}":{first}}}')
+
+
+def of_ignored(kind):
+    """The rows of names to ignore that are nearly those of a schema object, one of which is a keyword."""
+    place = json.loads(SCHEMAS[kind]).popitem()[0]
+    at, passes = f"/{kind}/{escaped(place)}", "1 records, 0 errors" if kind == "columns" else "0 errors"
+    for keyword, told in (("x-unit", f'unknown keyword "x-unit" at {at}'),
+                          ("enum", WRONG_MEMBERS["enum"][1].format(at))):
+        names = [keyword[:-1] + "*", "*", keyword[:2], "^" + keyword[0], keyword.upper(), "/" + keyword, "", keyword]
+        for ignored in ([*others, name] for name in names for others in ([], ["zz"])):
+            members = f'"{kind}":{{"{place}":{{"{keyword}":[]}}}},"ignore":{json.dumps(ignored)}'
+            yield [f'{{"plan":{{"draft":7,{members}}},{INPUTS[kind]}}}', passes if keyword in ignored else told]
+
+
+def of_words(kind):
+    """The rows of words and names that a plan of a kind does not have, though they say nearly the same."""
+    place = json.loads(SCHEMAS[kind]).popitem()[0]
+    at = f"/{kind}/{escaped(place)}"
+    if kind == "columns":
+        yield from (of_plan(kind, **{kind: f'{{"{place}":{{"empty":"{word}"}}}}'}) for word in WORDS)
+        yield from (of_plan(kind, duplicates=f'"{word}"') for word in WORDS)
+    for name, value in product(NAMES, ("true", '"skip"')):
+        near = [other for other in OWN[kind] if is_near(name, other)]
+        meant = f': did you mean "{near[0]}"?' if near else ""
+        text = f'{{"plan":{{"draft":7,"{kind}":{{"{place}":{{"{name}":{value}}}}}}},{INPUTS[kind]}}}'
+        yield [text, f'unknown keyword "{name}" at {at}{meant}']
+
+
+def of_delimiter(code):
+    """The row of a character of ASCII as the delimiter, or nothing where it is none."""
+    c, (first, second) = chr(code), [letter for letter in "xyz" if letter != chr(code)][:2]
+    if c in '"\r\n':
+        return []
+    plan = {"draft": 7, "columns": {"2": {"maxLength": 1}}, "delimiter": c}
+    row = {"plan": plan, "header": False, "file": f"{first}{c}{second}{second}\n"}
+    return [json.dumps(row, separators=(",", ":")), f'1: 2: /maxLength: "{second * 2}" is longer than 1 character',
+            "1 records, 1 errors"]
+
+
 # ---- what places stand for (RFC 6901, section 4)
 
 def spots(place, document):
@@ -195,6 +246,16 @@ def of_place(place, own, document):
     told = [*messages(place, own, document)]
     return [f'{{"plan":{{"draft":7,"places":{{{place_text}:{schema}}}}},"document":{document_text}}}', *told,
             f"{len(told)} errors"]
+
+
+def before_a_fault():
+    """The rows of a place with an error before one with a fault, and behind it: nothing is written before a fault."""
+    for (schema, document), first in product((('{"maxLength":1}', '{"a":"xx"}'), ("{}", "{}"),
+                                              ('{"string":true}', '{"a":1}')), ("/a", "/a/b")):
+        for fault, told in (('"b":{}', "the place `b` is no JSON pointer"),
+                            ('"/~2":{}', "the place `/~2` is no JSON pointer"),
+                            ('"/c":{"maxLength":-1}', WHOLE.format("/places/~1c"))):
+            yield [f'{{"plan":{{"draft":7,"places":{{"{first}":{schema},{fault}}}}},"document":{document}}}', told]
 
 
 # ---- what is wrong with two members: the first is told, in the order of docs/CALLING.md
@@ -363,6 +424,14 @@ def lines():
     made.append("# `ignore` with values of which one or more are no strings, first and last")
     made += [line for kind in MEMBERS for count in (2, 3) for values in product(('"x"', "null", "1"), repeat=count)
              for line in of_plan(kind, ignore=f'[{",".join(values)}]')]
+    made.append("# two limits, of which the first that is wrong by the bytes of their names is told")
+    made += [line for kind in MEMBERS for row in of_limits(kind) for line in row]
+    made.append("# names to ignore that are nearly those of a schema object: they are no patterns")
+    made += [line for kind in MEMBERS for row in of_ignored(kind) for line in row]
+    made.append("# words and names that a plan does not have, though they say nearly the same")
+    made += [line for kind in MEMBERS for row in of_words(kind) for line in row]
+    made.append("# each character of ASCII parts fields, but a quote, CR and LF")
+    made += [line for code in range(128) for line in of_delimiter(code)]
     made.append("# two things that are wrong with a plan, of which the first is told")
     made += [line for kind in MEMBERS for row in of_two(kind) for line in row]
     made.append("# names one edit away from members, limits and own members, also from those of the other kind of plan")
@@ -375,6 +444,8 @@ def lines():
         for other, document in enumerate(DOCUMENTS):
             owns = OWN_OF_PLACES[:4] if (number + other) % 2 == 0 else OWN_OF_PLACES[::2]
             made += [line for own in owns for line in of_place(place, own, document)]
+    made.append("# nothing is written before a fault, be it that of a later place or of an earlier")
+    made += [line for row in before_a_fault() for line in row]
     made.append("# empty texts at places, where the plan's own members pass over none of them")
     made += [line for own in OWN_OF_PLACES for place, document in
              product(("", "/a", "/*", "/a/*", "/*/*", "/a/0"),

@@ -100,7 +100,7 @@ def words_of(program):
     if "/" not in program:
         return [TOP / "crates" / program / "out" / program]
     path = TOP / program
-    is_python = b"python" in path.read_bytes().partition(b"\n")[0]
+    is_python = path.suffix == ".py" or b"python" in path.read_bytes().partition(b"\n")[0]
     return [sys.executable, path] if is_python else [path]
 
 
@@ -234,7 +234,7 @@ def is_right(program, row, words):
 def tried(program, rows, pool):
     """Whether each row was right; a program that is not there is one wrong row."""
     words = words_of(program)
-    if not os.access(words[-1], os.X_OK):
+    if not (os.access(words[0], os.X_OK) and words[-1].is_file()):
         print(f"programs: {program} is not built: run `rt ci` first", flush=True)
         return [False]
     answers = list(pool.map(lambda row: is_right(program, row, words), rows))

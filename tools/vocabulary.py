@@ -39,6 +39,18 @@ CONTENT = {"contentMediaType", "contentEncoding", "contentSchema"}
 ANNOTATIONS = {"title", "description", "default", "examples", "$comment", "$schema", "id", "$id", "$anchor", "$defs",
                "definitions", "readOnly", "writeOnly", "deprecated"}
 
+# Names that other documents have for members of schemas: draft 3, Hyper-Schema, OpenAPI, and extensions of programs.
+OTHERS = ("divisibleBy", "extends", "disallow", "links", "media", "base", "fragmentResolution", "pathStart",
+          "binaryEncoding", "mediaType", "targetSchema", "submissionSchema", "nullable", "discriminator", "xml",
+          "externalDocs", "example", "formatMinimum", "formatMaximum", "formatExclusiveMaximum", "$data", "$merge",
+          "$patch", "switch", "constant", "errorMessage", "transform", "regexp", "instanceof", "contentSize", "x", "")
+# Two keywords, of which the first stands before the other in docs/DECISIONS.md or in Validation, and names near both.
+TIES = (("minLength", "maxLength", "manLength", "mixLength"), ("maximum", "minimum", "manimum", "miximum"),
+        ("exclusiveMaximum", "exclusiveMinimum", "exclusiveManimum", "exclusiveMiximum"),
+        ("maxItems", "minItems", "manItems", "mixItems"), ("maxContains", "minContains", "manContains", "mixContains"),
+        ("maxProperties", "minProperties", "manProperties", "mixProperties"), ("allOf", "anyOf", "alyOf", "anlOf"),
+        ("anyOf", "oneOf", "aneOf", "onyOf"), ("$id", "if", "id", "$if"), ("$defs", "$ref", "$def", "$refs"))
+
 
 def members_of(registry, address):
     """The members that a meta-schema describes, by itself and by those that it takes in."""
@@ -111,6 +123,23 @@ def of_misspelled(draft, keyword, kind, keywords):
     return []
 
 
+def of_tie(draft, keywords, first, other, *names):
+    """The rows of names that are near two keywords of a draft, of which the first is proposed."""
+    if not {first, other} <= keywords:
+        return []
+    return [line for name in names if name not in keywords for line in (
+        row(draft, name, True), f'unknown keyword "{name}" at /columns/a: did you mean "{first}"?')]
+
+
+def of_far(draft, keywords):
+    """The rows of the front halves of keywords, of each with two edits, and of names that other documents have."""
+    names = [keyword[:(len(keyword) + 1) // 2] for keyword in sorted(keywords)]
+    names += [edits_of(edits_of(keyword, number % 4, 0), (number + 1) % 4, len(keyword) - 2)
+              for number, keyword in enumerate(sorted(keywords))]
+    return [line for name in dict.fromkeys((*names, *OTHERS)) if name not in keywords
+            for line in of_other(draft, name, keywords)]
+
+
 def lines():
     """All lines of the rows, for both files."""
     drafts = keywords_by_draft()
@@ -128,6 +157,9 @@ def lines():
             made += of_misspelled(draft, keyword, number % 4, keywords)
         for keyword in sorted(CHECKS):
             made += of_other(draft, f"z{keyword}z", keywords)
+        made.append(f"# draft {draft}: names near two keywords, halves of some, two edits, names of other documents")
+        made += [line for tie in TIES for line in of_tie(draft, keywords, *tie)]
+        made += of_far(draft, keywords)
     return made
 
 

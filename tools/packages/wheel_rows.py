@@ -2,6 +2,7 @@
 import re
 import sys
 import tempfile
+import zipfile
 from pathlib import Path
 
 from packages.rows import TOP, VERSION, run, with_variables
@@ -33,6 +34,11 @@ def made(rows, folder):
     one, other = (list((folder / time).iterdir()) for time in ["one", "other"])
     rows.row("the name of the wheel", len(one) == 1 and WHEEL.fullmatch(one[0].name), one)
     rows.row("pip wheel makes the same bytes", one[0].read_bytes() == other[0].read_bytes())
+    with zipfile.ZipFile(one[0]) as opened:
+        entries = opened.infolist()
+    names, times = [entry.filename for entry in entries], {entry.date_time for entry in entries}
+    rows.row("its files are in the order of their names, and of one time", names == sorted(names), names)
+    rows.row("which is the first that an archive may have", times == {(1980, 1, 1, 0, 0, 0)}, times)
     return one[0]
 
 

@@ -4,8 +4,8 @@ use std::fs;
 use std::path::PathBuf;
 use std::thread;
 use strkw::{
-    answer, is_idn_email, is_idn_hostname, is_regex, CompileError, Draft, Encoding, Format, Options, Schema,
-    UnknownName,
+    answer, is_idn_email, is_idn_hostname, is_regex, CompileError, Draft, Encoding, Format, Options, OutOfMemory,
+    Schema, UnknownName, ValidationError,
 };
 
 fn stored(name: &str) -> String {
@@ -41,7 +41,12 @@ fn names_lead_to_formats_and_back() {
     for encoding in Encoding::ALL {
         assert_eq!(encoding.name().parse(), Ok(*encoding));
     }
-    assert_eq!("regex".parse::<Format>(), Err(UnknownName("regex".to_owned())));
+    for name in ["regex", "Date", "DATE", " date", "date ", ""] {
+        assert_eq!(name.parse::<Format>(), Err(UnknownName(name.to_owned())));
+    }
+    for name in ["BASE64", "Json", "base-64", "base64 ", ""] {
+        assert_eq!(name.parse::<Encoding>(), Err(UnknownName(name.to_owned())));
+    }
 }
 
 #[test]
@@ -57,6 +62,9 @@ fn texts_are_valid_or_not() {
     assert_eq!(date.are_valid(&["2024-02-29", "", "2023-02-29"]).unwrap(), [true, false, false]);
     assert_eq!(date.are_valid::<&str>(&[]).unwrap(), Vec::<bool>::new());
     assert!(schema(Draft::Draft4, r#"{"maxLength": 2}"#).is_valid("\u{e4}\0").unwrap());
+    let wide = schema(Draft::Draft7, r#"{"pattern": "^(\u00e4\u20ac|b|\ud83d\ude00)$"}"#);
+    let texts = ["\u{e4}\u{20ac}", "b", "", "\u{1f600}", "\u{e4}", "b"];
+    assert_eq!(wide.are_valid(&texts).unwrap(), [true, true, false, true, false, true]);
     assert!(!schema(Draft::Draft6, r#"{"minLength": 400}"#).is_valid("a").unwrap());
 }
 
@@ -72,6 +80,12 @@ fn errors_and_notes_are_told() {
     ];
     assert_eq!(told, wanted);
     assert_eq!(report.notes, [("format".to_owned(), r#""date""#.to_owned())]);
+    let longer = schema(Draft::Draft7, r#"{"maxLength": 1}"#);
+    for text in ["a: b", "a: /b: c", "a\u{85}b", "a\u{2028}b", "a\u{b}b\u{c}c\r\n"] {
+        let errors = longer.errors(text).unwrap();
+        assert_eq!((errors.len(), errors[0].keyword.as_str()), (1, "maxLength"), "{text:?}");
+    }
+    assert_eq!(longer.errors("a: /b: c").unwrap()[0].message, r#""a: /b: c" is longer than 1 character"#);
     let long = "a".repeat(1000);
     let errors = schema(Draft::Draft7, r#"{"maxLength": 1}"#).errors(&long).unwrap();
     assert_eq!(errors[0].message, format!("\"{long}\" is longer than 1 character"));
@@ -141,6 +155,22 @@ fn refusals_are_told() {
     assert_eq!(compile(""), Err(CompileError::NoObject));
     let refused = compile(r#"{"format": "uuid"}"#).unwrap_err().to_string();
     assert!(refused.starts_with("the schema object is refused at /format: Unknown format: 'uuid'"), "{refused}");
+}
+
+#[test]
+fn errors_say_what_is_wrong() {
+    let error = ValidationError { keyword: "format".to_owned(), message: "a: b".to_owned() };
+    let told = [
+        (error.to_string(), "/format: a: b"),
+        (UnknownName("a\"b".to_owned()).to_string(), r#"unknown name "a\"b""#),
+        (OutOfMemory.to_string(), "out of memory"),
+        (CompileError::OutOfMemory.to_string(), "out of memory"),
+        (CompileError::NoObject.to_string(), "the schema is no JSON object"),
+        (CompileError::Refused("/a: b".to_owned()).to_string(), "the schema object is refused at /a: b"),
+    ];
+    for (found, wanted) in told {
+        assert_eq!(found, wanted);
+    }
 }
 
 #[test]
