@@ -27,6 +27,12 @@ LETTERS = "ABCDEFGHIJKLMNOPQRSTUVWXYZabcdefghijklmnopqrstuvwxyz"
 DIGITS = "0123456789"
 ASCII = "".join(map(chr, range(128)))
 BYTE_ORDER_MARK = "\ufeff"
+# Classes of patterns that take two steps and three, by their properties: both are characters of every sort, not all.
+TWO_STEPS = "[\\p{Lu}\\p{Ll}\\p{Lo}\\p{N}]"
+THREE_STEPS = "[\\p{Lu}\\p{Ll}\\p{Lt}\\p{Lm}\\p{Lo}\\p{Nd}\\p{Nl}\\p{No}]"
+# Ranges of two letters, which have no letter in common, and which have one.
+PAIRS = "".join(f"{chr(start)}-{chr(start + 1)}" for start in range(0x4E00, 0x4E80, 3))
+NEIGHBOURS = "".join(f"{one}-{other}" for one, other in itertools.pairwise(LETTERS))
 
 
 # A row is its JSON and the number of its answers.
@@ -3040,8 +3046,8 @@ def front_rows():
     yield from ruled_rows(FRONT_LOOKS, range(5))
     yield searches([[pattern, text, bool(found)] for pattern, told in PASSWORDS for text, found in told.items()])
     yield refusals("taken", NO_FRONTS)
-    yield refusals("taken", ["^(?=.{1000}.{300})(?=.{1000}.{297})", "^(?=.{1000}.{1000}.{597})a"])
-    yield refusals("it takes more than 2600 steps", ["^(?=.{1000}.{300})(?=.{1000}.{298})", "^(?=.{1000}.{1000}.{598})a"])
+    yield refusals("taken", ["^(?=.{2500}.{100})(?=.{2500}.{97})", "^(?=.{2500}.{2500}.{197})a"])
+    yield refusals(MORE_STEPS_OF_ALL, ["^(?=.{2500}.{100})(?=.{2500}.{98})", "^(?=.{2500}.{2500}.{198})a"])
 
 
 def is_bb_free(text):
@@ -3102,9 +3108,8 @@ def both_ways_rows():
         ([["(?<=b.*)(?=.*a)", 1]], [["a", 20_000], ["b", 1]], False),
         ([["(?<=b.*)(?=.*a)", 1]], [["b", 20_000], ["a", 1]], True)])
     # Each lookaround takes three steps more than what it looks for.
-    yield refusals("taken", ["(?<=a{1000}a{297})(?=b{1000}b{297})", "(?=a{1000}(?<=b{1000}c{594}))"])
-    yield refusals("it takes more than 2600 steps", [
-        "(?<=a{1000}a{297})(?=b{1000}b{298})", "(?=a{1000}(?<=b{1000}c{595}))"])
+    yield refusals("taken", ["(?<=a{2500}a{97})(?=b{2500}b{97})", "(?=a{2500}(?<=b{2500}c{194}))"])
+    yield refusals(MORE_STEPS_OF_ALL, ["(?<=a{2500}a{97})(?=b{2500}b{98})", "(?=a{2500}(?<=b{2500}c{195}))"])
 
 
 # Patterns that look far both ways, which are patterns of Python too; and texts that have what they look for at one
@@ -3296,11 +3301,11 @@ def front_limit_rows():
     fronts += [(f"{term}^", 1 + steps, 2) for term, steps in {**UNREAD, **OTHERS}.items()]
     taken, refused = [], []
     for sign, (front, steps, around) in itertools.product("=!", fronts):
-        left = MOST_STEPS_OF_ALL - 2 * MOST_TIMES - steps - around
-        taken.append(f"{front}(?{sign}.{{{MOST_TIMES}}}.{{{MOST_TIMES}}}.{{{left}}})")
-        refused.append(f"{front}(?{sign}.{{{MOST_TIMES}}}.{{{MOST_TIMES}}}.{{{left + 1}}})")
+        left = MOST_STEPS_OF_ALL - 2 * MANY_TIMES - steps - around
+        taken.append(f"{front}(?{sign}.{{{MANY_TIMES}}}.{{{MANY_TIMES}}}.{{{left}}})")
+        refused.append(f"{front}(?{sign}.{{{MANY_TIMES}}}.{{{MANY_TIMES}}}.{{{left + 1}}})")
     yield refusals("taken", taken)
-    yield refusals(f"it takes more than {MOST_STEPS_OF_ALL} steps", refused)
+    yield refusals(MORE_STEPS_OF_ALL, refused)
     yield "in the same places, beside a lookbehind that looks far: there is a table where it is looked for by itself"
     yield tables([[f"{front}(?{sign}ab)(?<=ba)c", around == 1] for sign in "=!" for front, _, around in fronts])
     yield "the same terms with no `^`, and with one before and behind them, in each text of a and b"
@@ -3314,7 +3319,8 @@ def front_limit_rows():
 # more than elsewhere, and a look-ahead has the alternatives that any pattern has (specs/Size.antt).
 STEPS_BOTH_WAYS = {
     "(?=a)": 4, "(?!a)": 4, "(?<=a)": 4, "(?<!a)": 4, "(?=)": 3, "(?!)": 3, "(?<=)": 3, "(?<!)": 3, "(?=^)": 4,
-    "(?<=$)": 4, "(?=\\b)": 4, "(?=\\p{L})": 5, "(?<!\\s)": 5, "(?=a|b)": 8, "(?<=a|b)": 8, "(?=a|b|c)": 10,
+    "(?<=$)": 4, "(?=\\b)": 4, "(?=\\p{L})": 4, "(?<!\\s)": 4, f"(?={TWO_STEPS})": 5, f"(?<!{TWO_STEPS})": 5,
+    "(?=a|b)": 8, "(?<=a|b)": 8, "(?=a|b|c)": 10,
     "(?<!a|b|c)": 10, "(?=a?)": 4, "(?<=a?)": 4, "(?=a*)": 4, "(?=(?:ab)?)": 8, "(?=a{7})": 10, "(?<=abc)": 6,
     "(?=(?=a))": 7, "(?<=(?=a))": 7, "(?=(?<=a))": 7, "(?!(?<!(?=a)))": 10, "(?=a(?=b)c)": 9, "(?=(?=a)|(?=b))": 14,
     "(?:(?=a))*": 6, "(?:(?=a)b)+": 7, "(?:(?=a))?": 7, "(?:(?=a)){3}": 12, "(?:(?=a)){2,}": 14, "(?:(?=a)){1,3}": 18,
@@ -3325,7 +3331,8 @@ STEPS_BOTH_WAYS = {
 # The same beside a look-ahead that looks far, in a part that is searched from the end of the text on: look-aheads take
 # the steps of look-behinds there, and the other way round.
 STEPS_TURNED = {
-    "(?<=a)": 3, "(?<!a)": 3, "(?<=)": 2, "(?<!)": 2, "(?<=^)": 3, "(?<=\\B)": 3, "(?<=\\p{L})": 4, "(?<=a|b)": 7,
+    "(?<=a)": 3, "(?<!a)": 3, "(?<=)": 2, "(?<!)": 2, "(?<=^)": 3, "(?<=\\B)": 3, "(?<=\\p{L})": 3,
+    f"(?<={TWO_STEPS})": 4, "(?<=a|b)": 7,
     "(?<=a|b|c)": 11, "(?<!a|b|c)": 11, "(?<=a?)": 6, "(?<=(?:a|b)?)": 10, "(?<=|a)": 6, "(?<=(?<=a))": 5,
     "(?<=(?<!a|b))": 9, "(?:(?<=a|b|c)d)+": 14, "(?=a)": 3, "(?=)": 2, "(?=a|b|c)": 9, "(?!a|b|c)": 9, "(?=a?)": 3,
     "(?=a*)": 3, "(?=(?:a|b)?)": 10, "(?=(?=a))": 5, "(?=ab|cd|ef)": 12, "(?=a(?=b)c)": 7, "(?!(?!a|b|c))": 11,
@@ -3342,11 +3349,11 @@ def look_limit_rows():
     beside += [(form, 4, STEPS_TURNED) for form in ("(?=de){}", "{}(?=de)", "(?:{}(?=de))")]
     for form, own, terms in beside:
         for term, steps in terms.items():
-            left = MOST_STEPS_OF_ALL - 2 * MOST_TIMES - own - steps
+            left = MOST_STEPS_OF_ALL - 2 * MANY_TIMES - own - steps
             for more, patterns in enumerate((taken, refused)):
-                patterns.append(f"{form.format(term)}x{{{MOST_TIMES}}}y{{{MOST_TIMES}}}z{{{left + more}}}")
+                patterns.append(f"{form.format(term)}x{{{MANY_TIMES}}}y{{{MANY_TIMES}}}z{{{left + more}}}")
     yield refusals("taken", taken)
-    yield refusals(f"it takes more than {MOST_STEPS_OF_ALL} steps", refused)
+    yield refusals(MORE_STEPS_OF_ALL, refused)
 
 
 def classes_of_bits(number):
@@ -3410,11 +3417,13 @@ MOST_WORK, MOST_ROWS, MOST_ENTRIES = 2 << 20, 1024, 12288
 COUNTED_TABLES = {
     "a{%d}": (1, 2, 3, 1, 1), "^a{%d}": (1, 2, 3, 1, 2), "a{%d}$": (1, 2, 3, 1, 2), "^a{%d}$": (1, 2, 3, 1, 3),
     ".{%d}": (1, 2, 3, 1, 1), "^a{0,%d}$": (1, 2, 3, 1, 3), "^a{%d}[^a]$": (1, 3, 3, 1, 5),
-    "[^]{1000}[^]{%d}": (1, 1001, 2, 1, 1002), "\\p{L}{%d}": (1, 2, 3, 1, 2),
-    "[\\p{L}\\p{N}]{600}[\\p{L}\\p{N}]{%d}": (1, 602, 3, 1, 606),
-    "[acegikmoqsuwyACE]{600}[acegikmoqsuwyACE]{%d}": (1, 602, 3, 1, 606),
-    "[acegikmoqsuwyAC]{600}[acegikmoqsuwyAC]{%d}": (1, 602, 3, 1, 604),
-    "^^[acegikm]{%d}$": (1, 2, 3, 1, 4), "^^[acegikmo]{%d}$": (1, 2, 3, 1, 5),
+    "[^]{1000}[^]{%d}": (1, 1001, 2, 1, 1002), "\\p{L}{%d}": (1, 2, 3, 1, 1), f"{TWO_STEPS}{{%d}}": (1, 2, 3, 1, 2),
+    "[\\p{L}\\p{N}]{600}[\\p{L}\\p{N}]{%d}": (1, 602, 3, 1, 602),
+    f"{TWO_STEPS}{{600}}{TWO_STEPS}{{%d}}": (1, 602, 3, 1, 604),
+    f"{THREE_STEPS}{{600}}{THREE_STEPS}{{%d}}": (1, 602, 3, 1, 606),
+    f"[{LETTERS}0123456789_.]{{600}}[{LETTERS}0123456789_.]{{%d}}": (1, 602, 3, 1, 606),
+    f"[{LETTERS}0123456789_]{{600}}[{LETTERS}0123456789_]{{%d}}": (1, 602, 3, 1, 604),
+    f"^^[{LETTERS[:31]}]{{%d}}$": (1, 2, 3, 1, 4), f"^^[{LETTERS[:32]}]{{%d}}$": (1, 2, 3, 1, 5),
     "(?:ab){%d}": (2, 2, 4, 2, 2), "(?:a|b){%d}": (2, 2, 4, 5, 2), "^(?:a|b|c)d{%d}$": (1, 5, 6, 1, 13),
     "^[ab]+c{%d}$": (1, 3, 4, 1, 5), "^(?:ab)*c{%d}$": (1, 4, 5, 1, 9), "^(?:ab)+c{%d}$": (1, 4, 5, 1, 9),
     "\\ba{%d}": (1, 3, 4, 1, 2), "(?<=a)b{%d}": (1, 3, 4, 1, 5), "^a{%d}(?=b)": (1, 2, 4, 1, 6),
@@ -3601,34 +3610,49 @@ def ahead_syntax_rows():
     yield refusals("taken", behind)
 
 
-# Atoms, and how many steps each takes: one for a class, and one more for each eight ranges and for each property; one
-# for an assertion, two around a loop and around what a lookaround looks for, three around alternatives, and one between
-# more of them, but in a lookahead three around each two.
+# Atoms, and how many steps each takes: one for a class, and one more for each 32 ranges, of which a property counts as
+# eight; one for an assertion, two around a loop and around what a lookaround looks for, three around alternatives, and
+# one between more of them, but in a lookahead three around each two.
 STEPS = {
-    "a": 1, ".": 1, "\\d": 1, "\\D": 1, "\\w": 1, "\\W": 1, "\\s": 2, "\\S": 2, "[\\s]": 2, "[\\S]": 2, "[\\W]": 1,
-    "\\p{L}": 2, "\\P{sc=Latn}": 2, "[abcdefg]": 1, "[abcdefgh]": 2, "[a-bd-eg-hj-km-np-qs-t]": 1,
-    "[a-bd-eg-hj-km-np-qs-tv-w]": 2, "[\\p{L}]": 2, "[\\p{L}abcdefg]": 2, "[\\p{L}abcdefgh]": 3, "[\\p{L}\\p{N}]": 3,
+    "a": 1, ".": 1, "\\d": 1, "\\D": 1, "\\w": 1, "\\W": 1, "\\s": 1, "\\S": 1, "[\\s]": 1, "[\\S]": 1,
+    "[\\W]": 1, "[\\s\\S]": 1, "\\p{L}": 1, "\\P{sc=Latn}": 1, f"[{LETTERS[:31]}]": 1, f"[{LETTERS[:32]}]": 2,
+    f"[{PAIRS[:31 * 3]}]": 1, f"[{PAIRS[:32 * 3]}]": 2, "[\\p{L}]": 1, f"[\\p{{L}}{LETTERS[:23]}]": 1,
+    f"[\\p{{L}}{LETTERS[:24]}]": 2, "[\\p{L}\\p{N}\\p{P}]": 1, TWO_STEPS: 2, THREE_STEPS: 3,
     "[^]": 1, "[]": 1, "(?:ab)": 2, "(?:abc)": 3, "(?:a|b)": 5, "(?:a|b|c)": 7, "(?:a*)": 1, "(?:a?)": 1, "(?:a+)": 1,
     "(?:(?:ab)*)": 4, "(?:(?:ab)+)": 4, "(?:(?:ab)?)": 5, "(?:^)": 1, "(?:\\b)": 1, "(?:^a$)": 3, "(?:(?:a|b)*)": 7,
     "(?:a{7})": 7, "(?:a{0,7})": 7, "(?:(?:ab){0,2})": 10, "(?:a|)": 4, "(?:|a)": 4, "(?:(?:a|b)?)": 8, "(?:(?<=a))": 3,
     "(?:(?<!ab)c)": 5, "(?:(?<=a|b))": 7, "(?:(?<!))": 2, "(?:(?<=a{7}))": 9, "(?:(?<=(?<!a)))": 5, "(?:(?=a))": 3,
-    "(?:(?!a)c)": 4, "(?:(?=a|b))": 7, "(?:(?!))": 2, "(?:(?=\\p{L}))": 4, "(?:(?=a?))": 6, "(?:(?=(?!a)))": 5,
+    "(?:(?!a)c)": 4, "(?:(?=a|b))": 7, "(?:(?!))": 2, "(?:(?=\\p{L}))": 3, f"(?:(?={TWO_STEPS}))": 4,
+    "(?:(?=a?))": 6, "(?:(?=(?!a)))": 5,
     "(?:(?=a|b|c))": 11, "(?:(?=$))": 3, "(?:a?|b)": 5, "(?:b|a?)": 5, "(?:a?|b?|c?)": 7, "(?:(?:ab)?|c)": 9,
     "(?:c|(?:ab)?)": 9, "(?:a*|b+)": 5, "(?:|a|b)": 6, "(?:a||b)": 6, "(?:a|b|)": 6, "(?:|)": 3, "(?:||)": 4,
-    "(?:a{0,1}|b)": 5, "(?:\\p{L}?|b)": 6, "(?:^|a)": 5, "(?:a|b|c|d)": 9, "(?:\\B)": 1, "(?:$)": 1,
+    "(?:a{0,1}|b)": 5, "(?:\\p{L}?|b)": 5, f"(?:{TWO_STEPS}?|b)": 6, "(?:^|a)": 5, "(?:a|b|c|d)": 9,
+    "(?:\\B)": 1, "(?:$)": 1,
     "(?:(?=\\b))": 3, "(?:(?=\\B))": 3, "(?:(?=^))": 3, "(?:(?=(?:a|b)?))": 10, "(?:(?=(?:|a)))": 6, "(?:(?=a??))": 6,
-    "(?:(?<=\\b))": 3, "(?:(?<=$))": 3, "(?:(?<!a|b|c))": 9, "(?:(?<=(?:ab)*))": 6, "(?:(?<=a?))": 3, "(?:(?!\\s))": 4}
+    "(?:(?<=\\b))": 3, "(?:(?<=$))": 3, "(?:(?<!a|b|c))": 9, "(?:(?<=(?:ab)*))": 6, "(?:(?<=a?))": 3, "(?:(?!\\s))": 3,
+    f"(?:(?!{TWO_STEPS}))": 4}
 # The same of classes: each set, property and character of one counts, and so does a hyphen last or first in it.
 STEPS_OF_CLASSES = {
-    "\\p{Lu}": 2, "\\P{Nd}": 2, "\\p{Alphabetic}": 2, "\\P{Hex}": 2, "\\p{Any}": 2, "\\P{ASCII}": 2, "\\p{Assigned}": 2,
-    "[\\p{Lu}\\p{Any}]": 3, "[\\p{ASCII}abcdefg]": 2, "[\\p{ASCII}abcdefgh]": 3, "[^\\p{Alphabetic}\\P{sc=Grek}]": 3,
-    "[\\Dabcde]": 1, "[\\Dabcdef]": 2, "[\\dabcdef]": 1, "[\\dabcdefg]": 2, "[\\Wab]": 1, "[\\Wabc]": 2, "[\\wabc]": 1,
-    "[\\wabcd]": 2, "[\\sabcde]": 2, "[\\sabcdef]": 3, "[\\Sabcd]": 2, "[\\Sabcde]": 3, "[abcdef-]": 1, "[abcdefg-]": 2,
-    "[-abcdef]": 1, "[-abcdefg]": 2, "[^abcdefg]": 1, "[^abcdefgh]": 2, "[\\P{L}]": 2, "[^\\P{L}]": 2,
-    "[\\P{L}abcdefg]": 2, "[\\P{L}abcdefgh]": 3, "[aaaaaaaa]": 2, "[a-bb-cc-dd-ee-ff-gg-h]": 1,
-    "[a-bb-cc-dd-ee-ff-gg-hh-i]": 2, "[\\b\\t\\0\\cA\\x41\\u0042\\-]": 1,
-    "[\\b\\t\\0\\cA\\x41\\u0042\\-\\]]": 2}
-MOST_STEPS, MOST_STEPS_OF_ALL, MOST_TIMES = 2000, 2600, 1000
+    "\\p{Lu}": 1, "\\P{Nd}": 1, "\\p{Alphabetic}": 1, "\\P{Hex}": 1, "\\p{Any}": 1, "\\P{ASCII}": 1, "\\p{Assigned}": 1,
+    "[\\p{Lu}\\p{Any}\\P{L}]": 1, "[\\p{Lu}\\p{Any}\\P{L}\\p{L}]": 2, "[^\\p{Alphabetic}\\P{sc=Grek}]": 1,
+    "[^\\p{Alphabetic}\\P{sc=Grek}\\P{Hex}\\p{Lower}]": 2, "[\\P{L}]": 1, "[^\\P{L}]": 1, "[\\p{L}]": 1,
+    f"[\\b\\t\\0\\cA\\x41\\u0042\\-{LETTERS[:24]}]": 1, f"[\\b\\t\\0\\cA\\x41\\u0042\\-\\]{LETTERS[:24]}]": 2,
+    f"[{'a' * 31}]": 1, f"[{'a' * 32}]": 2, f"[{'a' * 63}]": 2, f"[{'a' * 64}]": 3,
+    f"[{NEIGHBOURS[:31 * 3]}]": 1, f"[{NEIGHBOURS[:32 * 3]}]": 2, f"[{'a-b' * 95}]": 3, f"[{'a-b' * 96}]": 4}
+# What may stand in a class, and how many ranges it counts as.
+RANGES_OF_MEMBERS = {
+    "\\d": 1, "\\D": 2, "\\w": 4, "\\W": 5, "\\s": 10, "\\S": 11, "\\p{ASCII}": 8, "\\P{L}": 8, "\\p{sc=Latn}": 8,
+    "\\p{Lower}": 8, "-": 1, "\\-": 1, "a-b": 1, "\\s\\S": 21, "\\s\\s\\s": 30, "\\p{L}\\p{N}\\p{P}": 24, "\\w\\s": 14}
+for member, ranges in RANGES_OF_MEMBERS.items():
+    for sign, steps in itertools.product(("", "^"), (1, 2)):
+        STEPS_OF_CLASSES[f"[{sign}{LETTERS[:30 + steps - ranges]}{member}]"] = steps
+    STEPS_OF_CLASSES |= {f"[{member}{LETTERS[:31 - ranges]}]": 1, f"[{member}{LETTERS[:32 - ranges]}]": 2}
+MOST_STEPS, MOST_STEPS_OF_ALL, MOST_TIMES = 5200, 5200, 5000
+MORE_STEPS, MORE_STEPS_OF_ALL, MORE_TIMES = (
+    f"a counted term takes more than {MOST_STEPS} steps", f"it takes more than {MOST_STEPS_OF_ALL} steps",
+    f"it has a count above {MOST_TIMES}")
+# Half of it: two terms that stand so often leave few steps of a whole pattern.
+MANY_TIMES = 2500
 
 
 # How many steps a term with a quantifier takes: those of its copies, and of a loop or of what may be missing.
@@ -3636,32 +3660,39 @@ STEPS_OF_TERMS = {
     "x*": 1, "x+": 1, "x?": 1, "x{5,}": 6, "x{0,}": 1, "x{0}": 0, "x{1}": 1, "x{2,5}": 5, "x{0,3}": 3, "x{3,3}": 3,
     "x{5,}?": 6, "x{2,5}?": 5, "(?:xy)*": 4, "(?:xy)+": 4, "(?:xy)?": 5, "(?:xy){5,}": 14, "(?:xy){0,}": 4,
     "(?:xy){1,}": 6, "(?:xy){2,5}": 19, "(?:xy){0,2}": 10, "(?:xy){3,3}": 6, "(?:x|y){2,}": 17, "(?:x|y|z)+": 9,
-    "(?:x|y){0,2}": 16, "\\p{L}{5,}": 12, "\\p{L}{2,5}": 10, "(?:(?:xy)*){2,}": 14, "(?:x*)*": 3,
-    "(?=x{0})": 2, "(?=x{0,0})": 2, "(?=x?)": 6, "(?=)": 2, "(?=^)": 3, "(?!\\p{L})": 4, "(?<=xy)": 4, "(?<!x{5})": 7}
+    "(?:x|y){0,2}": 16, "\\p{L}{5,}": 6, "\\p{L}{2,5}": 5, f"{TWO_STEPS}{{5,}}": 12, f"{TWO_STEPS}{{2,5}}": 10,
+    "(?:(?:xy)*){2,}": 14, "(?:x*)*": 3,
+    "(?=x{0})": 2, "(?=x{0,0})": 2, "(?=x?)": 6, "(?=)": 2, "(?=^)": 3, "(?!\\p{L})": 3, f"(?!{TWO_STEPS})": 4,
+    "(?<=xy)": 4, "(?<!x{5})": 7}
 
 
 def limits_of_terms():
     """Each term at the most steps of a whole pattern, and a step more."""
     for term, steps in STEPS_OF_TERMS.items():
         for more in (0, 1):
-            yield f"a{{1000}}a{{1000}}{term}b{{{MOST_STEPS_OF_ALL - 2000 - steps + more}}}", not more
-            yield f"a{{1000}}{term}b{{{MOST_STEPS_OF_ALL - 2000 - steps + more}}}c{{1000}}", not more
+            left = MOST_STEPS_OF_ALL - 2 * MANY_TIMES - steps + more
+            yield f"a{{{MANY_TIMES}}}a{{{MANY_TIMES}}}{term}b{{{left}}}", not more
+            yield f"a{{{MANY_TIMES}}}{term}b{{{left}}}c{{{MANY_TIMES}}}", not more
+            yield f"a{{{MOST_TIMES}}}{term}b{{{MOST_STEPS_OF_ALL - MOST_TIMES - steps + more}}}", not more
 
 
 def limits_of_atoms():
     """Counts of each atom at the greatest that is taken, and one more."""
     for atom, steps in {**STEPS, **STEPS_OF_CLASSES}.items():
         most = min(MOST_TIMES, MOST_STEPS // steps)
+        # A class that is repeated without end is one instruction, and else two stand around the loop.
+        around = 2 if atom.startswith("(") else 0
         yield f"{atom}{{{most}}}", True
         yield f"{atom}{{{most + 1}}}", False
         yield f"{atom}{{{most},}}", (most + 1) * steps <= MOST_STEPS
-        yield f"{atom}{{{most - 1},}}", True
+        yield f"{atom}{{{most - 1},}}", most * steps + around <= MOST_STEPS_OF_ALL
+        yield f"{atom}{{{most - 2},}}", (most - 1) * steps + around <= MOST_STEPS_OF_ALL
         yield f"{atom}{{{most + 1},}}", False
         if steps < 3:
             most = MOST_STEPS // (3 * steps)
             yield f"(?:{atom * 3}){{{most}}}", True
             yield f"(?:{atom * 3}){{{most + 1}}}", False
-    for count, zeros in itertools.product((999, 1000, 1001), ("", "0", "0" * 20)):
+    for count, zeros in itertools.product(range(MOST_TIMES - 1, MOST_TIMES + 2), ("", "0", "0" * 20)):
         for bounds in (f"{zeros}{count}", f"{zeros}{count},", f"0,{zeros}{count}", f"{zeros}{count},{count}"):
             yield f"a{{{bounds}}}", count <= MOST_TIMES
 
@@ -3678,13 +3709,21 @@ def limits_of_patterns():
             pattern = [[opening, deep], ["a", 1], [")", deep]]
             yield pattern, [["a", 1]], found
             yield pattern + [["b", 1]], [["ab", 1]], found and opening != "(?="
-    for steps in (599, 600, 601):
-        found = True if steps <= 600 else None
-        yield [["a{1000}", 2], [f"a{{{steps}}}", 1]], [["a", 2000 + steps]], found
-        yield [["(?:ab){1000}", 1], ["c", steps]], [["ab", 1000], ["c", steps]], found
-        alternatives = [["a{1000}", 1], ["|b{1000}", 1], [f"|c{{{steps - 4}}}", 1]]
+    for steps in (199, 200, 201):
+        found = True if steps <= 200 else None
+        yield [["a{2500}", 2], [f"a{{{steps}}}", 1]], [["a", 5000 + steps]], found
+        yield [["(?:ab){2500}", 1], ["c", steps]], [["ab", 2500], ["c", steps]], found
+        alternatives = [["a{2500}", 1], ["|b{2500}", 1], [f"|c{{{steps - 4}}}", 1]]
         yield alternatives, [["c", steps - 4]], found
-        yield [["\\p{L}{1000}", 1], ["c", steps]], [["c", 1000 + steps]], found
+        yield [[f"{TWO_STEPS}{{2500}}", 1], ["c", steps]], [["c", 2500 + steps]], found
+        yield [["a{5000}", 1], ["b", steps]], [["a", 5000], ["b", steps]], found
+    # The greatest length of a text is often told by a count.
+    for most in (1000, 4000, 4096, 5000):
+        for form, letter in (("^.{0,%d}$", "a"), ("^[\\s\\S]{1,%d}$", "\n"), ("^[^\\r\\n]{0,%d}$", "\U0001f600"),
+                             ("^[\\p{L}\\p{N} .,]{1,%d}$", "\u4e00"), ("^\\S(?:.{0,%d}\\S)?$", "\u00e9")):
+            beside = 2 if "?" in form else 0
+            for more in (-1, 0, 1):
+                yield [[form % most, 1]], [[letter, most + beside + more]], more < 1
 
 
 # What stands for itself behind a backslash without the flag `u`: ASCII but letters, digits, blanks, SyntaxCharacter, `/`.
@@ -3712,11 +3751,19 @@ def refusal_rows():
     yield refusals("taken", in_forms(forms, "/^$.*+?()[]{}|\\"))
     forms = ("(?{}a)", "a(?{})", "(?:(?{}))", "(?<n>(?{}a))", "a|(?{}b)", "(?<=(?{}a))", "(?<!a)(?{}b)")
     yield refusals("taken", in_forms(forms, ("=", "!", "<=", "<!")))
-    above = ("1001}", "1001,}", "1001,1002}", "0,1001}", "1000,1001}", "2000}", "10000}", "01001}")
-    yield refusals("it has a count above 1000", [f"a{{{count}" for count in above])
+    above = ("5001}", "5001,}", "5001,5002}", "0,5001}", "5000,5001}", "6000}", "10000}", "50000}", "05001}")
+    yield refusals(MORE_TIMES, [f"a{{{count}" for count in above])
     most = {atom: MOST_STEPS // steps for atom, steps in {**STEPS, **STEPS_OF_CLASSES}.items()}
     above = [f"{atom}{{{count + 1}}}" for atom, count in most.items() if count < MOST_TIMES]
-    yield refusals("a counted term takes more than 2000 steps", above)
+    yield refusals(MORE_STEPS, above)
+    # As a whole this takes fewer: from the end of a text on, two steps fewer stand in each of these look-aheads.
+    yield refusals(MORE_STEPS, ["(?=de)(?:(?=a|b|c)d){434}", "(?:(?=a|b|c)d){434}(?=de)"])
+    yield refusals("taken", ["(?=de)(?:(?=a|b|c)d){433}", "(?:(?=a|b|c)d){433}(?=de)"])
+    # In a counted term the last term that a look-ahead looks for is counted, and nothing of a loop or a look-behind. So
+    # these are small enough as counted terms, but as a whole they are not.
+    ahead = {"(?:(?=abc*)x)": 1733, "(?:(?=abc)x)": 1300, "(?:(?=a(?<=b))x)": 1733, "(?:(?=a(?:b|c)?)x)": 472}
+    yield refusals(MORE_STEPS_OF_ALL, [f"{term}{{{count}}}" for term, count in ahead.items()])
+    yield refusals(MORE_STEPS, [f"{term}{{{count + 1}}}" for term, count in ahead.items()])
     yield refusals("taken", [f"{atom}{{{min(MOST_TIMES, count)}}}" for atom, count in most.items()])
     names = ("any", "ascii", "Alphabetic=Yes", "gc=Alphabetic", "CWKCF", "lu", "gc=lu", "sc=latn", "scx=Latn", "Latin",
              "x", "_", "gc=x")
@@ -3726,7 +3773,7 @@ def refusal_rows():
                          (but(LETTERS + DIGITS + "_=}"), NOT_TAKEN)):
         yield refusals(why, in_forms(("\\p{{a{}}}", "[\\P{{a{}b}}]", "\\p{{gc=a{}}}"), letters))
     above = [(atom, count + 1) for atom, count in most.items() if count < MOST_TIMES]
-    yield refusals("a counted term takes more than 2000 steps", [f"{atom}{{{n},{n}}}" for atom, n in above])
+    yield refusals(MORE_STEPS, [f"{atom}{{{n},{n}}}" for atom, n in above])
     yield refusals(NOT_TAKEN, [pattern for pattern, is_taken in BRACES.items() if not is_taken])
     names = ("a=b", "a!b", "", "a b", "1", "a=", "\\x61", "\\u{}", "\\u006", "\\", "a\\", "a\\u", "a\\u{61", "-", "a-")
     broken = [f"(?<{name}" for name in names] + ["(?", "(?a", "(?i", "(?;", "(?9a)", "(?\"a)"]
@@ -3747,14 +3794,13 @@ REASONS = {
     "\\1": "it has a back reference", "\\k<n>": "it has a back reference",
     "\\!": "\\! is valid only without the flag u: write ! for it",
     "\\p{Foo}": "it has a property that is not known here", "[\\P{Foo}]": "it has a property that is not known here",
-    "a{1001}": "it has a count above 1000", "a{0,1001}": "it has a count above 1000",
-    "(?:abc){667}": "a counted term takes more than 2000 steps", "]": NOT_TAKEN, "a**": NOT_TAKEN,
+    "a{5001}": MORE_TIMES, "a{0,5001}": MORE_TIMES, "(?:abc){1734}": MORE_STEPS, "]": NOT_TAKEN, "a**": NOT_TAKEN,
     "(" * 251 + "a": "its groups are more than 250 deep"}
 
 
 def rows_of_two_reasons():
     """Patterns with two reasons: the length is told, else what stands first, and last the size."""
-    whole = "a{1000}a{1000}a{601}"
+    whole = "a{5000}a{201}"
     for first, why in REASONS.items():
         others = [second for second, other in REASONS.items() if other != why]
         yield refusals(why, [form.format(first, second) for second in others for form in ("{}{}", "{}|b{}", "{}(?={})")])
@@ -4351,14 +4397,14 @@ def large_rows():
            "alternatives and loops; what stands 0 times takes none")
     taken, refused = [], []
     for form, steps in AROUND_STEPS.items():
-        left = MOST_STEPS_OF_ALL - 2 * MOST_TIMES - steps
+        left = MOST_STEPS_OF_ALL - 2 * MANY_TIMES - steps
         for more, patterns in enumerate((taken, refused)):
-            patterns.append(form.format(f"a{{{MOST_TIMES}}}b{{{MOST_TIMES}}}c{{{left + more}}}"))
+            patterns.append(form.format(f"a{{{MANY_TIMES}}}b{{{MANY_TIMES}}}c{{{left + more}}}"))
     above = f"(?:a{{{MOST_TIMES}}}b{{{MOST_TIMES}}}c{{{MOST_TIMES}}})"
     yield refusals("taken", [*taken, *(f"{above}{times}x" for times in ("{0}", "{00}", "{0}?", "{0,0}", "{0,0}?"))])
-    yield refusals(f"it takes more than {MOST_STEPS_OF_ALL} steps", refused)
+    yield refusals(MORE_STEPS_OF_ALL, refused)
     counted = [f"{above}{times}" for times in ("{1}", "{0,1}", "{0,}")]
-    yield refusals("a counted term takes more than 2000 steps", counted)
+    yield refusals(MORE_STEPS, counted)
     yield "as many groups, names, alternatives, digits and members of a class as a pattern of 2,000 characters may have"
     many = [chr(0x4E00 + 2 * place) for place in range(1990)]
     members = "".join(many)
@@ -4382,12 +4428,12 @@ def placed_reason_rows():
     yield "each reason for which a pattern is not taken, in each place where a term may stand"
     for piece, why in REASONS.items():
         yield refusals(why, in_forms(PLACES_OF_REASONS, [piece]))
-    large = [f"(?:abc){times}" for times in ("{667}", "{667,}", "{0,667}", "{667,667}?")]
-    yield refusals("a counted term takes more than 2000 steps", in_forms(PLACES_OF_REASONS, large))
-    above = [f"a{times}" for times in ("{1001}", "{1001,}", "{1,1001}", "{01001}")]
+    large = [f"(?:abc){times}" for times in ("{1734}", "{1734,}", "{0,1734}", "{1734,1734}?")]
+    yield refusals(MORE_STEPS, in_forms(PLACES_OF_REASONS, large))
+    above = [f"a{times}" for times in ("{5001}", "{5001,}", "{1,5001}", "{05001}")]
     above += [f"{term}{times}" for term in ("a*", "a{2}", "a??", "^", "\\b", "(?=a)", "(?<=a)", "a|", "")
-              for times in ("{1001}", "{1001,}", "{1,1001}")]
-    yield refusals("it has a count above 1000", in_forms(PLACES_OF_REASONS, above))
+              for times in ("{5001}", "{5001,}", "{1,5001}")]
+    yield refusals(MORE_TIMES, in_forms(PLACES_OF_REASONS, above))
     openings = ("(", "(?:", "(?<n>", "(?=", "(?!", "(?<=", "(?<!")
     behind = [f"{before}{opening}a" for before in ("a", "a|", "a*", "a{2}?", "^", "(?=a)", "[^a]") for opening in openings]
     yield refusals("its groups are more than 250 deep", [f"{'(' * 250}{piece}" for piece in behind])
@@ -4524,7 +4570,7 @@ WRONG_PIECES = (
 # Pieces that the whole grammar has, and the engine does not take.
 WHOLE_PIECES = (
     "(b)\\1", "\\1(b)", "(?<n>b)\\k<n>", "\\k<n>(?<n>b)", "\\ud83d", "\\ude00", "\\u{D83D}", "[\\ud83d]",
-    "[^\\ude00-\\udfff]", "\\ude00\\ud83d", "\\p{CWKCF}", "\\P{scx=Latn}", "[\\p{scx=Grek}]", "a{1001}", "a{5000,}",
+    "[^\\ude00-\\udfff]", "\\ude00\\ud83d", "\\p{CWKCF}", "\\P{scx=Latn}", "[\\p{scx=Grek}]", "a{5001}", "a{5001,}",
     "a{0,4294967296}", "(?:a{1000}){1000}")
 # The reasons that are told of some of the pieces that make no pattern; of the others none is.
 TOLD_PIECES = tuple("\\- \\_ \\9 \\k \\k<a> \\p{X} \\p{gc=X} \\p{sc=L} \\p{lu} \\P{Latin} [\\p{X}] [^\\P{X}]".split())
@@ -4712,9 +4758,9 @@ def far_reason_rows():
             if "(" not in piece:
                 yield refusals(why, [f"{'(' * groups}{piece}" for groups in (1, 249, 250)])
     yield "a count is above the greatest whatever stands behind its digits"
-    counts = ("a{1001", "a{1001,", "a{0,1001", "a{1001 }", "a{1001;2}", "a{10011", "a{1001,1", "a{1,1001a}",
-              "(a{1001|b")
-    yield refusals("it has a count above 1000", counts)
+    counts = ("a{5001", "a{5001,", "a{0,5001", "a{5001 }", "a{5001;2}", "a{50011", "a{5001,1", "a{1,5001a}",
+              "(a{5001|b")
+    yield refusals(MORE_TIMES, counts)
     yield "of two characters that stand for themselves without the flag `u` the first is told"
     for one in NEEDLESSLY_ESCAPED:
         others = [f"\\{one}\\{other}" for other in NEEDLESSLY_ESCAPED + "19k"]

@@ -41,6 +41,10 @@ pub mod Weights
 pub mod Spread
 pub mod Passed
 pub mod Searched
+pub mod Leads
+pub mod Linked
+pub mod Chains
+pub mod Chained
 pub mod Bounded
 pub mod Widths
 pub mod Backwards

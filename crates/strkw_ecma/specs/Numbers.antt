@@ -11,7 +11,7 @@ pub use Rattle.strkw_ecma.specs.declared.tokens.CountToken.TheVariants.{Other as
 
 -- no count is greater
 abbrev pub max_count : ℕ
-max_count = 1000
+max_count = 5000
 
 abbrev pub is_digit : ℕ → Bool
 is_digit c = nat_le (byte "0") c && nat_le c (byte "9")

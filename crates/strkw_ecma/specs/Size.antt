@@ -1,6 +1,6 @@
 -- How large a pattern is: the steps of its program, each of which takes one of a search, backwards
 -- and forwards, for each character. A step is an instruction, and of a class one more for each
--- eight ranges and for each property.
+-- 32 ranges, of which a property counts as eight.
 use Rattle.std.specs.Prelude.{ℕ, ◌+◌, ◌/◌, false, List, [], ◌∷◌, if◌then◌else◌}
 use Rattle.strkw_ecma.specs.declared.tree.CharSet.{CharSet}
 use Rattle.strkw_ecma.specs.declared.tree.CharSet.TheVariants.{Range, Property}
@@ -12,11 +12,11 @@ use Rattle.strkw_ecma.specs.Program.{star_end, plus_begin, plus_end, look_begin,
 
 -- of a counted term, its copies each with the steps of what is repeated
 abbrev pub max_term_steps : ℕ
-max_term_steps = 2000
+max_term_steps = 5200
 
 -- of a whole pattern
 abbrev pub max_steps : ℕ
-max_steps = 2600
+max_steps = 5200
 
 -- to look a character up takes what eight ranges do
 abbrev pub set_cost : CharSet → ℕ
@@ -28,7 +28,7 @@ sets_cost [] = 0
 sets_cost (r ∷ rs) = set_cost r + sets_cost rs
 
 abbrev pub class_steps : List CharSet → ℕ
-class_steps rs = sets_cost rs / 8 + 1
+class_steps rs = sets_cost rs / 32 + 1
 
 abbrev pub instruction_steps : Instruction → ℕ
 instruction_steps (read again optional n rs) = class_steps rs

@@ -31,3 +31,5 @@ pub mod RefusalParts
 pub mod Columns
 pub mod Table
 pub mod Searches
+pub mod Links
+pub mod Chains

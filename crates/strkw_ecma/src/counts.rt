@@ -5,7 +5,7 @@ ghost use Rattle.strkw_ecma.specs.machine.Reading.{with_digit as spec_with_digit
 ghost use Rattle.strkw_ecma.specs.machine.Makers.{patterns};
 
 // The greatest count.
-pub(crate) const MAX_COUNT: u32 = 1000;
+pub(crate) const MAX_COUNT: u32 = 5000;
 
 // What has been read of a count: its first number, where it has digits yet, or both.
 #[derive(Clone, Copy)]

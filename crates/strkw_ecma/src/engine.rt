@@ -140,12 +140,14 @@ impl RegexEngine for EcmaMatcher {
 /// - classes with `[ ]` and `[^ ]`, of characters, ranges and those escapes, with `\-`, and `\b` for the backspace.
 ///
 /// Any other text is not taken, nor is a pattern with groups and look-arounds more than 250 deep, with more than 2,000
-/// characters, with a count above 1,000, with a counted term of more than 2,000 steps (its copies, each with the steps
-/// of what is repeated), or one of more than 2,600 steps as a whole. A step is an instruction of the pattern's program:
+/// characters, with a count above 5,000, with a counted term of more than 5,200 steps (its copies, each with the steps
+/// of what is repeated), or one of more than 5,200 steps as a whole. A step is an instruction of the pattern's program:
 /// one for each class, which may be repeated without end or be missing, and for each other assertion, two around a loop
 /// or the pattern of a look-around, three around alternatives, and one between more of them; and of a class one more
-/// for each eight ranges and for each property. A look-around is counted one step more in a part where look-aheads and
-/// look-behinds both look far. Steps are counted before there is a program.
+/// for each 32 ranges, of which a property counts as eight. A look-around is counted one step more in a part where
+/// look-aheads and look-behinds both look far. In a counted term, of what a look-ahead looks for, the last term of a
+/// sequence is counted alone, three steps around each two alternatives, and nothing of a look-behind or of a term with
+/// another quantifier than `?`. In the whole all of it is, for each copy. Steps are counted before there is a program.
 ///
 /// A match is a search for the pattern in the text (section 22.2.7.2), with no flag but `u`: characters are Unicode
 /// scalar values; `^` and `$` stand for the two ends of the text, `.` for each character but U+000A, U+000D, U+2028

@@ -1,19 +1,22 @@
-//! What looks for a pattern in a text: its program, and where it has one, its table.
+//! What looks for a pattern in a text: its program, and where it has one, its table or its chain.
 
-ghost use Rattle.std.specs.Prelude.{◌≡◌, ◌≤◌, ◌||◌, not, ℕ, Bool, List, true, false, IsTrue, IsOk, IfOk, None, Some};
+ghost use Rattle.std.specs.Prelude.{◌≡◌, ◌≤◌, ◌||◌, not, ℕ, Bool, List, true, false, IsTrue, IsOk, IfOk, IfSome, None, Some};
 ghost use Rattle.std.specs.Str.{chars};
 ghost use Rattle.strkw_ecma.specs.Glances.{are_told};
 ghost use Rattle.strkw_ecma.specs.Mirror.{along};
 ghost use Rattle.strkw_ecma.specs.Size.{steps, search_steps, max_steps};
+ghost use Rattle.strkw_ecma.specs.machine.Chains.{IsChainOf};
 ghost use Rattle.strkw_ecma.specs.machine.Machine.{pattern_of};
 ghost use Rattle.strkw_ecma.specs.machine.Marks.{is_clean, is_unmarked};
 ghost use Rattle.strkw_ecma.specs.machine.Needed.{needed_char as spec_needed};
 ghost use Rattle.strkw_ecma.specs.machine.Search.{search_from};
 ghost use Rattle.strkw_ecma.specs.machine.Searches.{IsSearchedBy};
 ghost use Rattle.strkw_ecma.specs.machine.Shape.{outline_pattern};
+ghost use Rattle.strkw_ecma.specs.declared.links.Chain.{Chain};
 ghost use Rattle.strkw_ecma.specs.declared.table.Table.{Table};
 
 use crate::finding::is_found;
+use crate::links::Chain;
 use crate::making::table_of;
 use crate::needed::{LONG, lacks};
 use crate::outline::Outline;
@@ -24,15 +27,21 @@ use crate::seekers::{rows_of, seekers_of};
 use crate::table::Table;
 use std::alloc::{AllocError, Global};
 
+/// How many bytes a text has, at least, that is searched by a chain where there is a table too. A table is quicker for
+/// a shorter one.
+const LEAST_CHAINED: usize = 8;
+
 /// What looks for a pattern. Its lookaheads are told by the next character.
 #[derive(Drop)]
 pub(crate) struct Finder {
     pub(crate) program: Program,
     pub(crate) table: Option<Table>,
+    chain: Option<Chain>,
     needed: Option<u8>,
     ghost clean: { is_clean (pattern_of program) ≡ true },
     ghost told: { are_told (pattern_of program) ≡ true },
     ghost exact: { (t : Table) → table ≡ Some t → IsSearchedBy t (pattern_of program) },
+    ghost chained: { (c : Chain) → chain ≡ Some c → IsChainOf c program.code },
     ghost read: { needed ≡ spec_needed (pattern_of program) },
 }
 
@@ -46,9 +55,11 @@ impl Finder {
         let needed = outline.needed_byte();
         let program = Program::of(alloc, outline)?;
         let table = table_of(alloc, &program)?;
+        let chain = Chain::of(alloc, &program.code)?;
         Ok(Finder {
             program,
             table,
+            chain,
             needed,
         })
     }
@@ -64,11 +75,32 @@ impl Finder {
         }
     }
 
+    // Whether the pattern is found in the text, where it is quickly told by its chain.
+    fn ask_chain(&self, text: &str, is_backward: bool) -> Option<bool>
+        ensures { IfSome result (λ found. found
+            ≡ search_from (pattern_of self.now.program) None (along is_backward (chars text.now))) }
+    {
+        let chain = self.chain.as_ref()?;
+        if is_backward || (self.table.is_some() && text.len() < LEAST_CHAINED) {
+            return None;
+        }
+        if text.is_ascii() {
+            return Some(chain.is_found_in_ascii(text));
+        }
+        if self.table.is_some() {
+            return None;
+        }
+        Some(chain.is_found(&self.program.code.classes, text))
+    }
+
     /// Whether the pattern is found in the text, or where it is looked for backward, in the text turned round.
     pub(crate) fn is_found(&self, text: &str, is_backward: bool) -> bool
         ensures { result
             ≡ search_from (pattern_of self.now.program) None (along is_backward (chars text.now)) }
     {
+        if let Some(found) = self.ask_chain(text, is_backward) {
+            return found;
+        }
         if text.len() >= LONG && self.is_ruled_out(text) {
             return false;
         }

@@ -29,9 +29,9 @@ pub fn negative_sets_are_complements()
 {}
 
 /// The searches by the programs of the parts of each pattern that is taken, with their steps counted, come to the
-/// answers of the definition, in at most 5,200 steps together for each character of the text and for its end. A step is
-/// an instruction that is asked, backwards or forwards, and of a class one more for each eight ranges and for each
-/// property.
+/// answers of the definition, in at most 10,400 steps together for each character of the text and for its end. A step
+/// is an instruction that is asked, backwards or forwards, and of a class one more for each 32 ranges, of which a
+/// property counts as eight.
 pub fn searches_are_bounded()
     ensures { (source : List ℕ) (d : Disjunction) → IsPattern source d
         → (text : List ℕ) → AreSearchedWithin (2 * max_steps) (parts (pattern d)) text }

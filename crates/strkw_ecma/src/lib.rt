@@ -6,6 +6,8 @@
 mod along;
 mod asides;
 mod bits;
+mod chain;
+mod chaining;
 mod classes;
 mod code;
 mod codes;
@@ -18,6 +20,7 @@ mod finding;
 mod front;
 mod glances;
 pub mod laws;
+mod links;
 mod lookahead;
 mod making;
 mod marks;

@@ -16,7 +16,7 @@ use crate::walk::Walk;
 use std::alloc::{AllocError, Global};
 
 /// The most instructions of a pattern that is taken, each of which is a step.
-pub(crate) const MOST_INSTRUCTIONS: usize = 2600;
+pub(crate) const MOST_INSTRUCTIONS: usize = 5200;
 
 /// A pattern as it was read, and its program. The marks of a search stand beside it, one for each class that is read.
 #[derive(Drop)]

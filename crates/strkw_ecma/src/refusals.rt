@@ -29,11 +29,11 @@ pub enum PatternRefusal {
     TooLong,
     /// A group, a look-behind or a look-ahead opens within 250 others.
     TooDeep,
-    /// A count is above 1,000.
+    /// A count is above 5,000.
     CountTooGreat,
-    /// A counted term takes more than 2,000 steps.
+    /// A counted term takes more than 5,200 steps.
     TermTooLarge,
-    /// The pattern as a whole takes more than 2,600 steps.
+    /// The pattern as a whole takes more than 5,200 steps.
     TooLarge,
     /// Something else: it is no pattern of ECMA-262 in Unicode mode, or of a part of it that is not taken here.
     NotTaken,

@@ -12,14 +12,16 @@ use crate::outline::{Outline, Quantifier};
 use crate::tree::CharSet;
 
 // The most steps of a counted term, and of a whole pattern.
-pub(crate) const MAX_TERM_STEPS: u32 = 2000;
+pub(crate) const MAX_TERM_STEPS: u32 = 5200;
 
-pub(crate) const MAX_STEPS: u32 = 2600;
+pub(crate) const MAX_STEPS: u32 = 5200;
 
 const TOO_MANY: u32 = MAX_STEPS + 1;
 
-// What the sets of a class cost that take one step together.
-const COST_OF_A_STEP: u32 = 8;
+// What the sets of a class cost that take one step together: each range one, and a property as much as eight.
+const COST_OF_A_STEP: u32 = 32;
+
+const COST_OF_A_PROPERTY: u32 = 8;
 
 // What stands around alternatives and what may be missing, around a loop, and between two alternatives.
 const STEPS_OF_A_CHOICE: u32 = 3;
@@ -54,7 +56,7 @@ impl CharSet {
     {
         match self {
             CharSet::Range(..) => 1,
-            CharSet::Property(..) => COST_OF_A_STEP,
+            CharSet::Property(..) => COST_OF_A_PROPERTY,
         }
     }
 }

@@ -4,14 +4,14 @@ ghost use Rattle.std.specs.Prelude.{◌≡◌, ◌≤◌, ◌+◌, [], ◌∷◌
 ghost use Rattle.strkw_ecma.specs.machine.Walk.{first_or_false, below as spec_below};
 
 // Two for each instruction that a program may have.
-const ROOM: usize = 5200;
+const ROOM: usize = 10_400;
 
 #[derive(Drop)]
 pub(crate) struct Stack {
     pub(crate) answers: [bool; ROOM],
     pub(crate) first: usize,
-    ghost room: { length answers ≡ 5200 },
-    ghost within: { first ≤ 5200 },
+    ghost room: { length answers ≡ 10400 },
+    ghost within: { first ≤ 10400 },
 }
 
 impl Stack {
@@ -19,7 +19,7 @@ impl Stack {
 
     pub(crate) fn new() -> Stack
         ensures empty { answers_of result ≡ [] }
-        ensures room { result.first ≡ 5200 }
+        ensures room { result.first ≡ 10400 }
     {
         Stack {
             answers: [false; ROOM],
@@ -30,7 +30,7 @@ impl Stack {
     /// Takes all answers off.
     pub(crate) fn clear(&mut self)
         ensures empty { answers_of self.new ≡ [] }
-        ensures room { self.new.first ≡ 5200 }
+        ensures room { self.new.first ≡ 10400 }
     {
         self.first = ROOM;
     }

@@ -72,8 +72,8 @@ pub(crate) struct Walk {
 
 impl Walk {
     pub(crate) fn new() -> Walk
-        ensures around { result.around.first ≡ 5200 }
-        ensures again { result.again.first ≡ 5200 }
+        ensures around { result.around.first ≡ 10400 }
+        ensures again { result.again.first ≡ 10400 }
     {
         Walk {
             around: Stack::new(),
@@ -85,8 +85,8 @@ impl Walk {
     pub(crate) fn begin_back(&mut self) -> Ahead
         ensures asked { asked_of result self.new
             ≡ record { ends = true; goes_on = false; around = []; again = [] } }
-        ensures around { self.new.around.first ≡ 5200 }
-        ensures again { self.new.again.first ≡ 5200 }
+        ensures around { self.new.around.first ≡ 10400 }
+        ensures again { self.new.again.first ≡ 10400 }
     {
         self.around.clear();
         self.again.clear();
@@ -185,7 +185,7 @@ impl Walk {
     pub(crate) fn begin_forth(&mut self)
         ensures following { (enters : Bool) → following_of enters self.new
             ≡ record { enters = enters; around = []; again = answers_of self.old.again } }
-        ensures around { self.new.around.first ≡ 5200 }
+        ensures around { self.new.around.first ≡ 10400 }
     {
         self.around.clear();
     }

@@ -36,10 +36,10 @@ impl Schema {
     ///
     /// ```
     /// use strkw::{Draft, Options, Schema};
-    /// let refused = Schema::compile(Draft::Draft7, Options::default(), r#"{"pattern": "a{1001}"}"#).unwrap_err();
+    /// let refused = Schema::compile(Draft::Draft7, Options::default(), r#"{"pattern": "a{5001}"}"#).unwrap_err();
     /// let told = concat!(
-    ///     r#"the schema object is refused at /pattern: the pattern "a{1001}" is not taken: "#,
-    ///     "it has a count above 1000",
+    ///     r#"the schema object is refused at /pattern: the pattern "a{5001}" is not taken: "#,
+    ///     "it has a count above 5000",
     /// );
     /// assert_eq!(refused.to_string(), told);
     /// ```

@@ -120,15 +120,15 @@ fn words_of_search(alloc: Global, pattern: &str) -> Result<String, AllocError> {
     match EcmaPatterns.build(alloc, pattern) {
         Ok(engine) if engine.has_table() => String::from_str(
             alloc,
-            "texts in which the pattern is found: a search by a table, or of at most 5,200 steps for each character",
+            "texts in which the pattern is found: a search by a table, or of at most 10,400 steps for each character",
         ),
         Ok(engine) if engine.takes_memory() => String::from_str(
             alloc,
-            "texts in which the pattern is found: a search of at most 5,200 steps for each character, which takes memory",
+            "texts in which the pattern is found: a search of at most 10,400 steps for each character, which takes memory",
         ),
         Ok(_) => String::from_str(
             alloc,
-            "texts in which the pattern is found: a search of at most 5,200 steps for each character, without a table",
+            "texts in which the pattern is found: a search of at most 10,400 steps for each character, without a table",
         ),
         Err(BuildRefusal::Memory) => Err(AllocError),
         Err(BuildRefusal::Pattern) => String::from_str(alloc, "the pattern is not taken"),

@@ -162,7 +162,7 @@ const SEARCHES: &[Search] = &[
         found: None,
     },
     Search {
-        pattern: "a{0,1000}a{0,1000}a{0,1000}a{0,1000}a{0,1000}a{0,1000}",
+        pattern: "a{0,5000}a{0,201}",
         text: "",
         found: None,
     },
@@ -211,7 +211,7 @@ const REFUSALS: &[Refused] = &[
         why: Some(PatternRefusal::Property),
     },
     Refused {
-        pattern: "(?:abc){667}",
+        pattern: "(?:abc){1734}",
         why: Some(PatternRefusal::TermTooLarge),
     },
     Refused {

@@ -16,9 +16,9 @@ use Rattle.strkw_ecma.proofs.finding.is_found.Goals as goal
 pub characters-init : goal.characters-init
 characters-init c =
     let p = pattern_of c.args.program.now in
-    let none : mark_classes (replicate 2600 false) p ≡ p = unmarked (replicate 2600 false) p c.requires.clean (none_marked 2600) in
+    let none : mark_classes (replicate 5200 false) p ≡ p = unmarked (replicate 5200 false) p c.requires.clean (none_marked 5200) in
     record {
-      long = length-replicate 2600 false;
+      long = length-replicate 5200 false;
       so_far = ap (λ q. search_from q None (left_of c.new-left.result)) none ∙ ap (search_from p None) c.new-left.ensures;
     }
 

@@ -10,7 +10,7 @@ use Rattle.strkw_ecma.proofs.finding.is_found.Given as goal
 -- the search of what is left comes to what that of the text does
 abbrev pub invariant-characters : goal.invariant-characters
 invariant-characters l = record {
-  long : length l.marks ≡ 2600;
+  long : length l.marks ≡ 5200;
   so_far : search_from (mark_classes l.marks (pattern_of l.program)) l.last (left_of l.left)
       ≡ search_from (pattern_of l.program) None (along l.is_backward (chars l.text));
 }

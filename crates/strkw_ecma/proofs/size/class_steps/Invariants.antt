@@ -6,5 +6,5 @@ use Rattle.strkw_ecma.proofs.size.class_steps.Given as goal
 abbrev pub invariant-loop-set : goal.invariant-loop-set
 invariant-loop-set l = record {
   parts : l.cost + sets_cost (drop l.set-index l.sets) ≡ sets_cost l.sets;
-  few : l.cost ≤ 20808;
+  few : l.cost ≤ 166408;
 }

@@ -9,8 +9,8 @@ invariant-back l = record {
   within : l.place ≤ length l.self.code.instructions.items;
   counted : l.at + read_count (drop l.place (program_of l.self)) ≡ l.self.marks;
   asked : asked_of l.ahead l.walk ≡ asked l.last l.next (drop l.place (program_of l.self)) (drop l.at l.marks);
-  around : 5200 + 2 * l.place ≤ l.walk.around.first + 2 * length l.self.code.instructions.items;
-  again : 5200 + l.place ≤ l.walk.again.first + length l.self.code.instructions.items;
+  around : 10400 + 2 * l.place ≤ l.walk.around.first + 2 * length l.self.code.instructions.items;
+  again : 10400 + l.place ≤ l.walk.again.first + length l.self.code.instructions.items;
 }
 
 abbrev pub decreases-back : goal.decreases-back

@@ -71,10 +71,10 @@ bounds-marks-at-then-enters-mark c =
 
 pub overflow_add-at : goal.overflow_add-at
 overflow_add-at c =
-    let few : c.loop-instruction.at < 2600 =
+    let few : c.loop-instruction.at < 5200 =
     has_mark c.args.self.now c.loop-instruction.instruction-index _ c.deref-instruction-items.ensures.value c.loop-instruction-test.true
     c.in-Read.class c.in-Read.again c.in-Read.optional c.in-Read.is c.loop-instruction.at c.loop-instruction.invariant.counted
-    2600 (few_marks c.args.self.now) in
+    5200 (few_marks c.args.self.now) in
     omega (arith, few)
 
 pub step_over-enters-requires : goal.step_over-enters-requires

@@ -11,5 +11,5 @@ invariant-loop-instruction l = record {
   followed : followed l.last l.next (program_of l.self) (start_following (answers_of l.fn.walk.again)) l.fn.marks
       ≡ with_marks l.last l.next (take l.at l.marks)
       (followed l.last l.next (drop l.instruction-index (program_of l.self)) (following_of l.enters l.walk) (drop l.at l.marks));
-  around : 5200 ≤ l.walk.around.first + 2 * l.instruction-index;
+  around : 10400 ≤ l.walk.around.first + 2 * l.instruction-index;
 }

@@ -11,7 +11,7 @@ use Rattle.strkw_ecma.proofs.seeker.Seeker.ends.Given as goal
 -- the answers so far, and those of what is left, are those of the text
 abbrev pub invariant-characters : goal.invariant-characters
 invariant-characters l = record {
-  long : length l.marks ≡ 2600;
+  long : length l.marks ≡ 5200;
   to_come : l.ahead ≡ length (left_of l.left);
   so_far : bits_of l.bits ++ ends_from (rows_of l.rows) l.self.told.items (mark_classes l.marks (pattern_of l.self.program)) l.last (left_of l.left)
       ≡ row_of (rows_of l.rows) (chars l.text) (seeking_of l.self);

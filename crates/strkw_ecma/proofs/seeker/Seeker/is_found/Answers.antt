@@ -19,9 +19,9 @@ characters-init c =
     let s = c.args.self.now in
     let p = pattern_of s.program in
     let rows = rows_of c.args.rows.now in
-    let none : mark_classes (replicate 2600 false) p ≡ p = unmarked (replicate 2600 false) p s.clean (none_marked 2600) in
+    let none : mark_classes (replicate 5200 false) p ≡ p = unmarked (replicate 5200 false) p s.clean (none_marked 5200) in
     record {
-      long = length-replicate 2600 false;
+      long = length-replicate 5200 false;
       to_come = c.char_count-ahead.ensures ∙ sym (ap length c.new-left.ensures ∙ along_length s.is_backward (chars c.args.text.now));
       so_far = ap (λ q. ends_within rows s.told.items q None (left_of c.new-left.result)) none
           ∙ ap (ends_within rows s.told.items p None) c.new-left.ensures;

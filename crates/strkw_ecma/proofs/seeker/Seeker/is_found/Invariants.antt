@@ -11,7 +11,7 @@ use Rattle.strkw_ecma.proofs.seeker.Seeker.is_found.Given as goal
 -- the search of what is left comes to what that of the text does
 abbrev pub invariant-characters : goal.invariant-characters
 invariant-characters l = record {
-  long : length l.marks ≡ 2600;
+  long : length l.marks ≡ 5200;
   to_come : l.ahead ≡ length (left_of l.left);
   so_far : ends_within (rows_of l.rows) l.self.told.items (mark_classes l.marks (pattern_of l.self.program)) l.last (left_of l.left)
       ≡ ends_within (rows_of l.rows) l.self.told.items (pattern_of l.self.program) None (along l.self.is_backward (chars l.text));

@@ -1,0 +1,238 @@
+//! How the chain of a program is made, where it is one.
+
+ghost use Rattle.std.specs.Prelude.{◌≡◌, ◌≤◌, ◌++◌, true, false, length, drop, replicate, IfOk, IfSome, IsTrue, Some, [], ◌∷◌};
+ghost use Rattle.strkw_ecma.specs.machine.Chains.{once, repeated, AreChained, IsChainOf};
+ghost use Rattle.strkw_ecma.specs.machine.Links.{AreTables, IsTableOf};
+ghost use Rattle.strkw_ecma.specs.machine.Machine.{IsWithin};
+ghost use Rattle.strkw_ecma.specs.declared.links.Chain.{Chain};
+ghost use Rattle.strkw_ecma.specs.declared.code.Instruction.TheVariants as instruction;
+ghost use Rattle.strkw_ecma.specs.declared.code.Instruction.TheVariants.{Read};
+ghost use Rattle.strkw_ecma.specs.declared.code.Turn.TheVariants as turn;
+
+use crate::code::{Class, Code, Instruction, Turn};
+use crate::links::{Chain, ClassTable, Often};
+use crate::marks::reads_class;
+use std::alloc::{AllocError, Global};
+
+/// The most classes of a chain, each of which has a table.
+const MOST_CLASSES: usize = 64;
+
+// The one class that may be read more often, how often it is, and how many instructions that are.
+#[derive(Clone, Copy)]
+struct Middle {
+    number: usize,
+    often: Often,
+    instructions: usize,
+}
+
+// What stands between `^` and `$`.
+#[derive(Drop)]
+struct Parts {
+    first: Vec<usize>,
+    middle: Middle,
+    last: Vec<usize>,
+}
+
+impl Instruction {
+    // The class of which it reads one character.
+    fn once_number(&self) -> Option<usize>
+        ensures { IfSome result (λ number. self.now ≡ Read number false false) }
+    {
+        match *self {
+            Instruction::Read {
+                class,
+                again: false,
+                optional: false,
+            } => Some(class),
+            _ => None,
+        }
+    }
+
+    // Whether it reads one character of this class, or nothing.
+    fn may_read(&self, number: usize) -> bool
+        ensures { IsTrue result → self.now ≡ Read number false true }
+    {
+        matches!(
+            self,
+            Instruction::Read {
+                class,
+                again: false,
+                optional: true,
+            } if *class == number
+        )
+    }
+
+    // Whether it is `^`.
+    fn is_start(&self) -> bool
+        ensures { IsTrue result → self.now ≡ instruction.Turn turn.Start }
+    {
+        matches!(self, Instruction::Turn(Turn::Start))
+    }
+
+    // Whether it is `$`.
+    fn is_end(&self) -> bool
+        ensures { IsTrue result → self.now ≡ instruction.Turn turn.End }
+    {
+        matches!(self, Instruction::Turn(Turn::End))
+    }
+}
+
+// What stands between `^` and `$`, where these are the ends.
+fn between_ends(instructions: &[Instruction]) -> Option<&[Instruction]>
+    ensures { IfSome result (λ inner.
+        instructions.now ≡ instruction.Turn turn.Start ∷ (inner.now ++ (instruction.Turn turn.End ∷ []))) }
+{
+    let (first, behind) = instructions.split_first()?;
+    let (last, inner) = behind.split_last()?;
+    if !first.is_start() {
+        return None;
+    }
+    if !last.is_end() {
+        return None;
+    }
+    Some(inner)
+}
+
+// The classes that are read once each before any other instruction.
+fn once_numbers(alloc: Global, instructions: &[Instruction]) -> Result<Vec<usize>, AllocError>
+    ensures within { IfOk result (λ numbers. length numbers.items ≤ length instructions.now) }
+    ensures once { IfOk result (λ numbers. instructions.now
+        ≡ once numbers.items ++ drop (length numbers.items) instructions.now) }
+{
+    let mut numbers = Vec::new(alloc);
+    for instruction in instructions {
+        let Some(number) = instruction.once_number() else {
+            return Ok(numbers);
+        };
+        numbers.push(number)?;
+    }
+    Ok(numbers)
+}
+
+// How many instructions stand first that each read one character of this class, or nothing.
+fn copy_count(instructions: &[Instruction], number: usize) -> usize
+    ensures within { result ≤ length instructions.now }
+    ensures copies { instructions.now
+        ≡ replicate result (Read number false true) ++ drop result instructions.now }
+{
+    for (place, instruction) in instructions.iter().enumerate() {
+        if !instruction.may_read(number) {
+            return place;
+        }
+    }
+    instructions.len()
+}
+
+// The one class with which the instructions begin. Where they do not, it is any class, and never read.
+fn middle_of(instructions: &[Instruction]) -> Middle
+    ensures within { result.instructions ≤ length instructions.now }
+    ensures repeated { instructions.now
+        ≡ repeated result.often result.number ++ drop result.instructions instructions.now }
+{
+    let (number, often, count) = match instructions.first() {
+        Some(
+            Instruction::Read {
+                class,
+                again: true,
+                optional,
+            },
+        ) => (
+            *class,
+            if *optional {
+                Often::AnyTimes
+            } else {
+                Often::SomeTimes
+            },
+            1,
+        ),
+        Some(
+            Instruction::Read {
+                class,
+                again: false,
+                optional: true,
+            },
+        ) => {
+            let count = copy_count(instructions, *class);
+            (*class, Often::AtMost(count), count)
+        }
+        _ => (0, Often::AtMost(0), 0),
+    };
+    Middle {
+        number,
+        often,
+        instructions: count,
+    }
+}
+
+// The parts of a program; none where it is no chain.
+fn parts_of(alloc: Global, instructions: &[Instruction]) -> Result<Option<Parts>, AllocError>
+    ensures { IfOk result (λ found. IfSome found (λ parts.
+        AreChained instructions.now parts.first.items parts.middle.often parts.middle.number
+        parts.last.items)) }
+{
+    let Some(inner) = between_ends(instructions) else {
+        return Ok(None);
+    };
+    let first = once_numbers(alloc, inner)?;
+    let behind = &inner[first.len()..];
+    let middle = middle_of(behind);
+    let rest = &behind[middle.instructions..];
+    let last = once_numbers(alloc, rest)?;
+    if last.len() < rest.len() {
+        return Ok(None);
+    }
+    Ok(Some(Parts {
+        first,
+        middle,
+        last,
+    }))
+}
+
+// The table of a class.
+fn table_of(class: &Class) -> ClassTable
+    ensures { IsTableOf (Some class.now) result }
+{
+    let mut table = [false; 256];
+    for byte in 0..128u8 {
+        table[usize::from(byte)] = reads_class(Some(char::from(byte)), class.negated, &class.sets);
+    }
+    table
+}
+
+// The tables of all classes.
+fn tables_of(alloc: Global, classes: &[Class]) -> Result<Vec<ClassTable>, AllocError>
+    ensures { IfOk result (λ tables. AreTables classes.now tables.items) }
+{
+    let mut tables = Vec::new(alloc);
+    for class in classes {
+        tables.push(table_of(class))?;
+    }
+    Ok(tables)
+}
+
+impl Chain {
+    /// The chain of a program; none where it is no chain, or has no class or more of them than a chain may have.
+    pub(crate) fn of(alloc: Global, code: &Code) -> Result<Option<Chain>, AllocError>
+        requires within { IsWithin code.now }
+        ensures { IfOk result (λ made. (c : Chain) → made ≡ Some c → IsChainOf c code.now) }
+    {
+        let Some(parts) = parts_of(alloc, &code.instructions)? else {
+            return Ok(None);
+        };
+        let Parts {
+            first,
+            middle,
+            last,
+        } = parts;
+        if code.classes.len() > MOST_CLASSES || middle.number >= code.classes.len() {
+            return Ok(None);
+        }
+        Ok(Some(Chain {
+            first,
+            middle: middle.number,
+            often: middle.often,
+            last,
+            tables: tables_of(alloc, &code.classes)?,
+        }))
+    }
+}
