@@ -9,6 +9,7 @@
 #include "strkw.h"
 
 #include <pthread.h>
+#include <stdatomic.h>
 #include <stdio.h>
 #include <stdlib.h>
 #include <string.h>
@@ -693,6 +694,72 @@ static bool writes_by(const strkw_schema *schema, const char *text, const char *
         && written == strlen(wanted) && memcmp(out, wanted, written) == 0;
 }
 
+/* The functions by a kept schema with a NULL for each pointer in turn: with a count of 0 it is an empty one, and with
+   another count it is refused, and nothing is written. */
+static void call_schemas_with_null(const strkw_schema *date, const strkw_schema *any) {
+    static const size_t one[] = {1}, none[] = {0};
+    const uint8_t *text = text_of("a"), *object = text_of("{}");
+    uint8_t *out = room_of(8);
+    size_t written = 77;
+    strkw_schema *made = (strkw_schema *)&lists;
+    row("schema_compile", "refused", "no bytes and a count",
+        strkw_schema_compile(7, 0, NULL, 2, &made) == STRKW_NULL && made == (strkw_schema *)&lists);
+    row("schema_compile", "refused", "no bytes, a count and nowhere",
+        strkw_schema_compile(7, 0, NULL, 2, NULL) == STRKW_NULL);
+    row("schema_compile", "refused", "nowhere, before a wrong draft",
+        strkw_schema_compile(5, 0, object, 2, NULL) == STRKW_NULL);
+    row("schema_compile", "refused", "no bytes, before a wrong option",
+        strkw_schema_compile(7, 8, NULL, 2, &made) == STRKW_NULL && made == (strkw_schema *)&lists);
+    row("schema_compile", "refused", "no bytes and no count",
+        strkw_schema_compile(7, 0, NULL, 0, &made) == STRKW_NO_SCHEMA && made == (strkw_schema *)&lists);
+    row("schema_check", "refused", "no texts", strkw_schema_check(date, NULL, 1, one, 1, out, 1) == STRKW_NULL);
+    row("schema_check", "refused", "no ends", strkw_schema_check(date, text, 1, NULL, 1, out, 1) == STRKW_NULL);
+    row("schema_check", "refused", "no verdicts", strkw_schema_check(date, text, 1, one, 1, NULL, 1) == STRKW_NULL);
+    row("schema_check", "refused", "no schema and nothing else",
+        strkw_schema_check(NULL, NULL, 0, NULL, 0, NULL, 0) == STRKW_NULL);
+    row("schema_check", "refused", "no texts, before too little room",
+        strkw_schema_check(date, NULL, 1, one, 1, out, 0) == STRKW_NULL);
+    row("schema_check", "refused", "no ends, before too much room",
+        strkw_schema_check(date, text, 1, NULL, 1, out, 2) == STRKW_NULL);
+    row("schema_check", "refused", "no ends and no count, and a verdict",
+        strkw_schema_check(date, text, 1, NULL, 0, out, 1) == STRKW_NO_ROOM);
+    row("schema_check", "refused", "an end, and no verdicts and no count",
+        strkw_schema_check(date, text, 1, one, 1, NULL, 0) == STRKW_NO_ROOM);
+    row("schema_check", "refused", "no texts and no count, and an end past them",
+        strkw_schema_check(date, NULL, 0, one, 1, out, 1) == STRKW_NO_ROOM);
+    row("schema_check", "refused", "nothing was written", !is_written(out, 8));
+    row("schema_check", "right", "no texts, no ends and no verdicts",
+        strkw_schema_check(date, NULL, 0, NULL, 0, NULL, 0) == STRKW_DONE);
+    row("schema_check", "right", "texts behind the last end, of which there is none",
+        strkw_schema_check(date, text, 1, NULL, 0, NULL, 0) == STRKW_DONE);
+    row("schema_check", "wrong", "an empty text, and no texts",
+        strkw_schema_check(date, NULL, 0, none, 1, out, 1) == STRKW_DONE && out[0] == 0);
+    row("schema_check", "right", "an empty text, and no texts",
+        strkw_schema_check(any, NULL, 0, none, 1, out, 1) == STRKW_DONE && out[0] == 1);
+    uint8_t *lines = room_of(8);
+    row("schema_errors", "refused", "no text", strkw_schema_errors(date, NULL, 1, lines, 8, &written) == STRKW_NULL);
+    row("schema_errors", "refused", "no room", strkw_schema_errors(date, text, 1, NULL, 8, &written) == STRKW_NULL);
+    row("schema_errors", "refused", "no count", strkw_schema_errors(any, text, 1, lines, 8, NULL) == STRKW_NULL);
+    row("schema_errors", "refused", "no count, and no room of no bytes",
+        strkw_schema_errors(any, text, 1, NULL, 0, NULL) == STRKW_NULL);
+    row("schema_errors", "refused", "no text, before too little room",
+        strkw_schema_errors(date, NULL, 1, lines, 0, &written) == STRKW_NULL);
+    row("schema_errors", "refused", "no room, before a text that is no UTF-8",
+        strkw_schema_errors(date, bytes_of("\377", 1), 1, NULL, 1, &written) == STRKW_NULL);
+    row("schema_errors", "refused", "no schema and no text",
+        strkw_schema_errors(NULL, NULL, 0, NULL, 0, &written) == STRKW_NULL);
+    row("schema_errors", "refused", "nothing was written", written == 77 && !is_written(lines, 8));
+    row("schema_errors", "right", "no text and no count",
+        strkw_schema_errors(any, NULL, 0, lines, 8, &written) == STRKW_DONE && written == 0 && !is_written(lines, 8));
+    written = 77;
+    row("schema_errors", "right", "no room and no count, and no lines",
+        strkw_schema_errors(any, text, 1, NULL, 0, &written) == STRKW_DONE && written == 0);
+    written = 77;
+    row("schema_errors", "refused", "no room and no count, and lines",
+        strkw_schema_errors(date, text, 1, NULL, 0, &written) == STRKW_NO_ROOM
+            && written == strlen("error /format: \"a\" is not a \"date\"\n") + strlen(NOTED));
+}
+
 static void call_schemas(void) {
     static const size_t ends[] = {1};
     strkw_schema *made = NULL;
@@ -721,8 +788,13 @@ static void call_schemas(void) {
     row("schema_compile", "refused", "a byte order mark before the object", makes_none(7, 0, MARKED, STRKW_NO_SCHEMA));
     row("schema_compile", "refused", "no bytes of an object", makes_none(7, 0, "", STRKW_NO_SCHEMA));
     row("schema_compile", "refused", "nowhere", strkw_schema_compile(7, 0, text_of("{}"), 2, NULL) == STRKW_NULL);
+    strkw_schema *any = NULL;
+    row("schema_compile", "right", "an empty object", strkw_schema_compile(7, 0, text_of("{}"), 2, &any) == STRKW_DONE);
+    call_schemas_with_null(made, any);
+    row("schema_check", "right", "it is as it was", checks_by(made, "\1\0"));
     /* The sanitiser of addresses tells of one that is freed twice or not at all. */
     strkw_schema_free(made);
+    strkw_schema_free(any);
     strkw_schema_free(NULL);
 }
 
@@ -764,11 +836,22 @@ static bool tells_none(struct handle *handle, const char *text, uint8_t status) 
 
 /* What a handle that keeps nothing is told. */
 static void call_empty(const char *what, struct handle *handle) {
+    static const size_t none[] = {0};
+    uint8_t *room = room_of(1);
     row("schema_check", "refused", what, checks_in(handle, 20, 2, STRKW_NO_SCHEMA, NULL));
     row("schema_check", "refused", "an end past the texts, first", checks_in(handle, 21, 2, STRKW_NO_ROOM, NULL));
     row("schema_check", "refused", "an end before another, first", checks_in(handle, 9, 2, STRKW_NO_ROOM, NULL));
     row("schema_check", "refused", "too little room, first", checks_in(handle, 20, 1, STRKW_NO_ROOM, NULL));
+    row("schema_check", "refused", "no text, no end and no verdict",
+        strkw_nonnull_schema_check(handle, text_of(""), 0, none, 0, room_of(0), 0) == STRKW_NO_SCHEMA);
+    row("schema_check", "refused", "texts, no end and no verdict",
+        strkw_nonnull_schema_check(handle, text_of("a"), 1, none, 0, room_of(0), 0) == STRKW_NO_SCHEMA);
+    row("schema_check", "refused", "an empty text",
+        strkw_nonnull_schema_check(handle, text_of(""), 0, none, 1, room, 1) == STRKW_NO_SCHEMA);
+    row("schema_check", "refused", "no end and a verdict, first",
+        strkw_nonnull_schema_check(handle, text_of(""), 0, none, 0, room, 1) == STRKW_NO_ROOM && !is_written(room, 1));
     row("schema_errors", "refused", what, tells_none(handle, "a", STRKW_NO_SCHEMA));
+    row("schema_errors", "refused", "an empty text", tells_none(handle, "", STRKW_NO_SCHEMA));
     row("schema_errors", "refused", "no UTF-8, first", tells_none(handle, "\377", STRKW_NOT_UTF8));
 }
 
@@ -836,6 +919,85 @@ static bool judges_mail(const strkw_schema *mail) {
     uint8_t verdicts[] = {7, 7};
     return strkw_schema_check(mail, (const uint8_t *)"a@ba-b", 6, ends, 2, verdicts, 2) == STRKW_DONE
         && verdicts[0] == 1 && verdicts[1] == 0;
+}
+
+/* A schema object, whether drafts 4 and 6, draft 7, and later ones find the text `ab--c` right by it, and options. By
+   docs/CALLING.md the encoding is checked in drafts 6 and 7, `hostname` is one format up to draft 6 and another later,
+   and `uuid` is one from 2019-09 on. */
+static const struct {
+    const char *schema;
+    uint32_t options;
+    bool in4, in6, in7, later;
+} by_drafts[] = {
+    {"{\"contentEncoding\":\"base64\"}", 0, true, false, false, true},
+    {"{\"format\":\"hostname\"}", 0, true, true, false, false},
+    {"{\"format\":\"hostname\"}", STRKW_FORMATS_AS_DRAFT, true, true, false, true},
+    {"{\"format\":\"uuid\"}", STRKW_IGNORE_UNKNOWN_FORMATS, true, true, true, false},
+    {"{\"format\":\"uuid\"}", STRKW_IGNORE_UNKNOWN_FORMATS | STRKW_FORMATS_AS_DRAFT, true, true, true, true},
+    {"{\"format\":\"email\"}", STRKW_COMPANION_FORMATS, false, false, false, false},
+    {"{\"format\":\"email\"}", STRKW_IGNORE_UNKNOWN_FORMATS, true, true, true, true},
+    {"{\"format\":\"email\"}", STRKW_COMPANION_FORMATS | STRKW_FORMATS_AS_DRAFT, false, false, false, true},
+    {"{\"format\":\"idn-email\"}", STRKW_COMPANION_FORMATS | STRKW_IGNORE_UNKNOWN_FORMATS, true, true, false, false},
+};
+
+/* A thread that has the one compiled object of a schema most of the time: it checks many texts, until it is told to
+   end. */
+static struct {
+    const strkw_schema *schema;
+    atomic_bool has_begun, ends;
+} busy;
+
+static void *checks_many(void *none) {
+    enum { COUNT = 20000 };
+    static size_t ends[COUNT];
+    static uint8_t verdicts[COUNT];
+    while (!atomic_load(&busy.ends)) {
+        atomic_store(&busy.has_begun, true);
+        strkw_schema_check(busy.schema, NULL, 0, ends, COUNT, verdicts, COUNT);
+    }
+    return none;
+}
+
+/* Whether an object that a call makes beside another one has the draft and the options of the schema: it finds the text
+   as the draft does, and writes the lines that strkw_errors writes by the bytes of the object. */
+static bool makes_alike(uint32_t draft, uint32_t options, const char *schema, bool is_right) {
+    static const size_t end[] = {5};
+    const uint8_t *text = (const uint8_t *)"ab--c", *object = (const uint8_t *)schema;
+    uint8_t lines[99] = {0}, wanted[99] = {0};
+    size_t count = 0;
+    bool are_alike = strkw_errors(draft, options, object, strlen(schema), text, 5, wanted, 99, &count) == STRKW_DONE;
+    strkw_schema *kept = NULL;
+    pthread_t thread;
+    if (strkw_schema_compile(draft, options, object, strlen(schema), &kept) != STRKW_DONE) return false;
+    busy.schema = kept;
+    atomic_store(&busy.has_begun, false);
+    atomic_store(&busy.ends, false);
+    if (pthread_create(&thread, NULL, checks_many, NULL) != 0) exit(2);
+    while (!atomic_load(&busy.has_begun)) usleep(10);
+    for (unsigned round = 0; round < ROUNDS; round++) {
+        uint8_t verdict = 7;
+        size_t written = 77;
+        are_alike = are_alike && strkw_schema_check(kept, text, 5, end, 1, &verdict, 1) == STRKW_DONE
+            && verdict == is_right && strkw_schema_errors(kept, text, 5, lines, 99, &written) == STRKW_DONE
+            && written == count && memcmp(lines, wanted, count) == 0;
+        usleep(10);
+    }
+    atomic_store(&busy.ends, true);
+    if (pthread_join(thread, NULL) != 0) exit(2);
+    strkw_schema_free(kept);
+    return are_alike;
+}
+
+static void call_beside(void) {
+    for (size_t i = 0; i < sizeof by_drafts / sizeof *by_drafts; i++) {
+        const char *schema = by_drafts[i].schema;
+        const uint32_t options = by_drafts[i].options;
+        row("schema_check", "right", schema, makes_alike(4, options, schema, by_drafts[i].in4));
+        row("schema_check", "right", schema, makes_alike(6, options, schema, by_drafts[i].in6));
+        row("schema_check", "right", schema, makes_alike(7, options, schema, by_drafts[i].in7));
+        row("schema_check", "right", schema, makes_alike(201909, options, schema, by_drafts[i].later));
+        row("schema_check", "right", schema, makes_alike(202012, options, schema, by_drafts[i].later));
+    }
 }
 
 /* What a thread does with the schema that all of them have. It answers NULL where one of its calls was wrong. */
@@ -944,6 +1106,7 @@ int main(int count, char **words) {
     call_handles();
 #endif
     call_together();
+    call_beside();
     if (!lists) printf("%u passed, %u failed\n", passed, failed);
     return failed == 0 ? 0 : 1;
 }

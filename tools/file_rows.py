@@ -14,12 +14,16 @@ NAMES = ("", "a", "A", "a ", "b")
 FIELDS = ("", '""', " ", "x", "xx", "\u00ff", "x\u00ff", "\u00c3\u00a9", "\u00c2\u00a0", "\u00ef\u00bb\u00bf",
           "\u00e2\u0080\u008b", "\t")
 # What stands by its code in a message.
-CODES = {ord(c): f"\\u{{{ord(c):x}}}" for c in "\t\u200b\ufeff"}
+CODES = {ord(c): f"\\u{{{ord(c):x}}}" for c in "\t\x7f\u0085\u2028\u200b\ufeff"}
 OWN = ({}, {"empty": "skip"})
 KEYWORDS = ({"minLength": 1}, {"maxLength": 1}, {"minLength": 2, "maxLength": 0})
 # First records by which limits are tried, with and without quotes, doubled quotes and line ends in quotes.
 RECORDS = ("a", "abc", ",", ",,", "a,", ",a", "ab,c", "a,bc", '""', '"ab"', '"a""b"', '"a\n"', '"\nab"',
            'a,"\n\r\nb",c', '"a\r\n,"', '"",""', '"ab"c', 'a"b', "\u00e9", "a,\u00e9b")
+# Fields in quotes, and what stands behind the closing quote: it belongs to the field, be it blanks or another quote.
+QUOTED = ('""', '"a"', '"a""b"', '"a,b"', '"a\nb"', '" "', '"a "')
+BEHIND_QUOTES = (" ", "  ", "\t", " x", "x ", "x", ' "', ' "x"', 'x"y"', "'", "\\", ";",
+                 "\u00c2\u00a0", "\u00ff", "\u00e2\u0080\u008b")
 # Line ends in front of a quote that stays open, of which each LF, CR LF and CR alone is one.
 ENDS = ("\n", "\r", "\r\n")
 # A byte order mark, one byte a character.
@@ -226,6 +230,32 @@ def ends():
         yield of_file(plan, f'{"".join(front)}a\n{"".join(behind)}xx\r')
 
 
+def behind_quotes():
+    """Fields in quotes with something behind the closing quote, or with a blank before the opening one."""
+    for front, quoted, behind in product(("", " ", "\t"), QUOTED, ("", *BEHIND_QUOTES)):
+        if not front or quoted[1] not in "a" or quoted == '"a"':
+            text = f"a,b\n{front}{quoted}{behind},x\nx,{front}{quoted}{behind}\n"
+            yield of_file({"columns": {"a": {"maxLength": 0}, "b": {"maxLength": 0}}}, text, keep_going=True)
+        if not front:
+            text = f"a\n{quoted}{behind}\n{quoted}{behind}\r\n"
+            yield of_file({"columns": {"a": {"minLength": 1}}}, text, keep_going=True)
+            for most in (0, 1, 2):
+                yield of_file({"columns": {"1": {}}, "limits": {"field": most}}, f"{quoted}{behind},x\n", header=False)
+    for quoted, behind in product(QUOTED, BEHIND_QUOTES):
+        yield of_file({"columns": {"a": {}}, "duplicates": "each"}, f"a,{quoted}{behind},b\nx,y,z\n,\n")
+
+
+def bytes_in_fields():
+    """Each byte but a quote in fields, at their ends and alone, with quotes and without."""
+    columns = {"columns": {"a": {"maxLength": 0}, "b": {"maxLength": 0}}}
+    for c in (*map(chr, range(256)), "\u00c2\u0085", "\u00e2\u0080\u00a8"):
+        if c != '"':
+            yield of_file(columns, f"a,b\nx{c}y,{c}\n", keep_going=True)
+            yield of_file(columns, f"a,b\n{c}x,x{c}\n", keep_going=True)
+            yield of_file(columns, f'a,b\n"x{c}y","{c}"\n"{c}x","x{c}"\n', keep_going=True)
+            yield of_file({"columns": {"1": {"maxLength": 1}}}, f"{c}x\nx{c}\n", header=False, keep_going=True)
+
+
 def lines():
     """All lines of these rows."""
     made = ["# names in the first record: too many, a missing one and one twice are told in this order"]
@@ -242,6 +272,10 @@ def lines():
     made += [line for row in limits() for line in row]
     made.append("# a byte order mark is no part of the file: it counts in no record and in no field")
     made += [line for row in marked() for line in row]
+    made.append("# each byte but a quote in fields and at their ends, with quotes and without")
+    made += [line for row in bytes_in_fields() for line in row]
+    made.append("# what stands behind a closing quote, and before an opening one, belongs to the field")
+    made += [line for row in behind_quotes() for line in row]
     made.append("# line ends of each kind in quotes, side by side and apart, before the first record and behind it")
     made += [line for row in ends() for line in row]
     made.append("# a quote that stays open, behind line ends of each kind and two of them")

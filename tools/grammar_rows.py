@@ -151,6 +151,40 @@ def at_places(labels, other, most=4):
     return [".".join([other] * before + [label] + [other] * behind) for label in labels for before, behind in places]
 
 
+def by_pairs(parts, turns=2):
+    """Each choice of each part with each choice of each other part, so many times over.
+
+    A part is two lists: choices that may stand there, and choices that may not. Of these a text has one at most. What
+    the other parts have is told by turns from the first list of each.
+    """
+    made = {}
+    for (one, ones), (other, others) in itertools.combinations(enumerate(parts), 2):
+        pairs = [*itertools.product(ones[0], others[0] + others[1]), *itertools.product(ones[1], others[0])]
+        for count, pair in enumerate(turns * pairs):
+            chosen = [rights[(count * (at + 1) + count // len(pairs) + at) % len(rights)]
+                      for at, (rights, _) in enumerate(parts)]
+            chosen[one], chosen[other] = pair
+            made["".join(chosen)] = None
+    return list(made)
+
+
+def repeated(of, parts, places, is_right):
+    """Each part at each place, some times over."""
+    return texts(of, [before + part * number + behind for before, behind in places for part in parts
+                      for number in (2, 3, 4, 5, 9, 17)], is_right)
+
+
+# Each sign of ASCII, and a character of each other kind.
+SIGNS = "".join(sign for sign in ASCII[33:127] if not sign.isalnum()) + "a1 \n\u00e9"
+
+
+def short_rows(rules, letters=SIGNS):
+    """Of each format the empty text, each character of ASCII alone, and each pair of some characters."""
+    yield "the shortest texts: none, one character and two"
+    for of, is_right in rules.items():
+        yield texts(of, ["", *ASCII, *words(letters, (1, 2))], is_right)
+
+
 def rows_of(*parts):
     """The rows that each of these functions makes, in their order."""
     return itertools.chain.from_iterable(part() for part in parts)
@@ -293,6 +327,77 @@ def is_moment(text):
     return is_date(text[:10]) and text[10:11] in ("T", "t") and is_time_of_day(text[11:])
 
 
+def is_full_time(text):
+    """The rule full-time, with second 60 in the last minute of a day of UTC."""
+    if is_time_of_day(text):
+        return True
+    found = re.fullmatch(rf"({CLOCK}):60(?:\.[0-9]+)?([Zz]|[+-]{CLOCK})", text)
+    if not found:
+        return False
+    local, offset = ([int(number) for number in re.findall("[0-9]+", part)] for part in found.groups())
+    east = 60 * offset[0] + offset[1] if offset else 0
+    return (60 * local[0] + local[1] + (east if found[2][0] == "-" else -east)) % 1440 == 1439
+
+
+def is_date_time(text):
+    """The rule date-time."""
+    return is_date(text[:10]) and text[10:11] in ("T", "t") and is_full_time(text[11:])
+
+
+# The parts of a time and of a date, right and wrong ones; second 60 and the last days of a month are right in some.
+TIME_PARTS = [
+    (["00:", "01:", "02:", "09:", "12:", "20:", "22:", "23:"], ["24:", "1:", "30:"]),
+    (["00:", "01:", "09:", "29:", "30:", "31:", "58:", "59:"], ["60:", "1:"]),
+    (["00", "01", "09", "30", "58", "59"], ["60", "61", "1"]),
+    (["", ".0", ".5", ".05", ".50", ".000", ".999", ".123456", ".1234567", ".000000000", ".9999999999", f".{'0' * 40}"],
+     [".", ",5", ".5."]),
+    (["Z", "z", "+00:00", "-00:00", "+00:01", "-00:01", "+00:30", "-00:30", "+01:00", "-01:00", "+05:45", "-09:30",
+      "-03:20", "+12:00", "-12:00", "+12:45", "+13:59", "+14:00", "-14:00", "+19:00", "-19:59", "+20:00", "+23:00",
+      "-23:00", "+23:59", "-23:59"], ["", "+24:00", "-12:60", "+0100", "-01", "ZZ"])]
+YEARS = ["0000-", "0001-", "0004-", "0099-", "0100-", "0400-", "1000-", "1500-", "1582-", "1600-", "1752-", "1899-",
+         "1900-", "1904-", "1969-", "1970-", "1971-", "1972-", "1999-", "2000-", "2023-", "2024-", "2038-", "2100-",
+         "2400-", "4000-", "9996-", "9999-"]
+MONTHS = [f"{month:02}-" for month in range(1, 13)]
+DAYS = [f"{day:02}" for day in range(1, 32)]
+DATE_PARTS = [(YEARS[::3], ["999-", "10000-"]), (MONTHS, ["00-", "13-", "1-"]),
+              (["01", "10", "19", "28"], ["00", "29", "30", "31", "32", "1"])]
+
+
+def pairs_of_times():
+    """Each part of a time, of a date and of both with each other."""
+    yield "each choice of a part with each of each other part: hours, minutes, seconds, fractions and offsets"
+    yield texts("time", by_pairs(TIME_PARTS, 4), is_full_time)
+    yield "years, months and days; and all of these with a time behind them"
+    yield texts("date", ["".join(some) for some in itertools.product(YEARS, MONTHS, DAYS[::9] + DAYS[27:])], is_date)
+    yield texts("date", by_pairs([(YEARS, ["999-", "10000-"]), *DATE_PARTS[1:]]), is_date)
+    yield texts("date-time", by_pairs([*DATE_PARTS, (["T", "t"], [" ", "_", ""]), *TIME_PARTS], 1), is_date_time)
+    yield "second 60 of the last minute of UTC, on each day and by each offset: no rule of the date is asked"
+    leap = [(text, is_right) for text, is_right in leap_seconds() if is_right or "60." not in text]
+    days = ["0000-01-01", "0000-12-31", "1500-06-15", "1582-10-10", "1969-12-31", "1971-06-30", "1972-06-30",
+            "2000-02-29", "2023-02-28", "2024-03-31", "9999-01-01", "9999-12-31"]
+    moments = {f"{days[at % len(days)]}{'Tt'[at % 2]}{text}": is_right for at, (text, is_right) in enumerate(leap)}
+    moments |= {f"{day}T{text}": is_right for day in days for text, is_right in leap[::37]}
+    yield texts("date-time", moments, moments.get)
+    yield "second 60 in each hour and in each minute, before each form of no offset"
+    clocks = [f"{hour:02}:59:60" for hour in range(24)] + [f"23:{minute:02}:60" for minute in range(60)]
+    no_offset = [f"{local}{fraction}{zone}" for local in clocks for fraction in ("", ".5", ".0")
+                 for zone in ("Z", "z", "+00:00", "-00:00")]
+    yield texts("time", no_offset, is_full_time)
+    yield texts("date-time", [f"2016-12-31{'Tt'[at % 2]}{time}" for at, time in enumerate(no_offset)], is_date_time)
+
+
+def letters_of_durations():
+    """Each right row of units with each of its letters in lower case, changed, doubled, left out or moved."""
+    dates, times = ("", "D", "M", "MD", "Y", "YM", "YMD"), ("", "H", "HM", "HMS", "M", "MS", "S")
+    for date, time in [*itertools.product(dates, times), ("W", "")]:
+        text = f"P{''.join(f'1{unit}' for unit in date)}{'T' if time else ''}{''.join(f'2{unit}' for unit in time)}"
+        yield from (text, text.replace("1", "30"), text.replace("2", "07"))
+        for at, letter in enumerate(text):
+            if letter.isalpha():
+                for other in [letter.lower(), *"YMWDHST", letter * 2, "", "1" + letter, f".5{letter}", f" {letter}"]:
+                    yield text[:at] + other + text[at + 1:]
+
+
 def day_rows():
     """Days, and second 60 at the ends of months."""
     days = dict(ends_of_months())
@@ -361,8 +466,79 @@ def decorated_times():
     yield changed_row("duration", wholes, whole(DURATION))
 
 
+def word_rows(rules):
+    """Words of the signs of each format, at places of a text. A rule has its forms, their signs and their sizes."""
+    yield "words of the signs that a format has rules for, at places of a text: in each order, and so many of each"
+    for of, is_right, forms in rules:
+        made_words = [form.format(word) for form, letters, sizes in forms for word in words(letters, sizes)]
+        yield texts(of, made_words, is_right)
+
+
+def pair_rows(rules):
+    """Two signs of each kind beside each other, at places of a text. A rule has the forms of its texts."""
+    yield "each two signs beside each other, at each place of a text: what a rule admits it admits beside any other"
+    for of, is_right, forms in rules:
+        yield texts(of, in_forms(forms, words(SIGNS, (2,))), is_right)
+
+
+# More of what other standards and programs write for a date, a time or a duration: RFC 9557, XML Schema, mail, clocks.
+FURTHER_DATES = [
+    "20240229", "2024-060", "2024060", "2024-W09-4", "2024W094", "2024-02", "2024", "--02-29", "-2024-02-29",
+    "+2024-02-29", "+12024-02-29", "02-29", "2024-2-9", "24-02-29", "2024/02/29", "2024.02.29", "29-02-2024",
+    "02/29/2024", "2024-02-29Z", "2024-02-29z", "2024-02-29+01:00", "2024-02-29T", "2024-02-29T00:00:00Z",
+    "2024-Feb-29", "29 Feb 2024", "2024-02-30", "2024-02-29[u-ca=iso8601]", "2024\u201302\u201329",
+    "2024\u221202\u221229", "today"]
+FURTHER_TIMES = [
+    "12:30", "12:30Z", "1230Z", "123045Z", "12:30:45", "12:30:45.5", "12:30:45,5Z", "12.5Z", "12:30.5Z", "T12:30:45Z",
+    "12Z", "12:30:45 Z", "12:30:45+01", "12:30:45+0100", "12:30:45+1:00", "12:30:45 +01:00", "12:30:45GMT",
+    "12:30:45UTC", "12:30:45EST", "12:30:45A", "12:30:45J", "12:30:45PM", "12:30:45\u221201:00", "12:30:45\u00b100:00",
+    "24:00:00Z", "24:00:00+00:00", "12:30:45[Europe/Paris]", "12:30:45Z[UTC]", "12:30:45+01:00[Europe/Paris]",
+    "12:30:45:00Z", "12:30:45;00Z", "12:30:45-00", "12:60:00Z", "12:30:61Z", "12:30:60Z", "12:30:45+24:00",
+    "12:30:45+01:60", "12:30:45+00:00:00", "12:30:45+01:00:30", "1:30:45Z", "12h30m45s", "12-30-45Z", "12.30.45Z",
+    "12:30:45.Z", "12:30:45Z.5", "12:30:45ZZ", "12:30:45+01:00Z", "12:30:45Z+01:00", "noon"]
+FURTHER_DURATIONS = [
+    "P", "PT", "P1", "1D", "P1DT", "P1D1H", "PT1", "P1.5D", "PT1.5S", "PT1,5S", "PT.5S", "P-1D", "-P1D", "+P1D", "P+1D",
+    "PT-1S", "P1Y2W", "P1W2D", "P1WT1H", "P1Y1D", "PT1H1S", "P1D1M", "PT1S1M", "P1M1Y", "P1H", "PT1D", "PT1Y", "PT1W",
+    "p1d", "P1d", "Pt1s", "P 1D", "P1 D", "PD", "PTS", "P1YD", "P0001-02-03T04:05:06", "P00010203T040506", "P1D/P1D",
+    "R5/P1D", "P\u0661D", "P1.D", "P.5D", "1:00:00", "PT36H", "P400D", "P13M", "PT61M", "PT61S", "PT0S", "P0D", "P0Y",
+    "P0W", "P3W", "P1Q", "P1DT1D", "P1DT1Y", "P1Y1Y", "PT1H1H", "P1Y1M1W1D", "PT1M1H", "P1YT1M", "P1MT1M", "1h30m",
+    "1.5h", "P1Y1M1DT1H1M1.5S", "P1Y1M1DT1H1M1S1", "PP1D", "P1DP1D", "PTT1S", "T1S", "P1S"]
+
+
+def other_forms():
+    """Dates, times and durations of other standards, alone and as parts of a moment."""
+    yield "what other standards write for a date, a time or a duration, and which of it stands in RFC 3339"
+    yield texts("date", FURTHER_DATES, is_date)
+    yield texts("time", FURTHER_TIMES, is_full_time)
+    moments = [f"{date}{sign}{time}" for date, time in [*itertools.product(FURTHER_DATES, ["12:30:45Z"]),
+                                                        *itertools.product(["2024-02-29"], FURTHER_TIMES)]
+               for sign in ("T", "t", " ", "_", "", "TT", ", ")]
+    moments += in_forms(("{}/2024-03-01T00:00:00Z", "{}/P1D"), moments[::13])
+    yield texts("date-time", moments, is_date_time)
+    yield texts("duration", FURTHER_DURATIONS, whole(DURATION))
+
+
+# Forms of times and durations, the signs that stand in their gap, and how many of them.
+WORDS_OF_TIMES = [("12:30:45{}", "+0:Z.", range(1, 6)), ("23:59:60{}", "+0:z-", range(1, 5)), ("{}Z", "12:.", (5, 6)),
+                  ("12:30{}", ":05.Z", range(1, 6))]
+WORDS_OF_DATES = [("2020-{}", "01-2", range(2, 6)), ("{}-01", "20-1", (3, 4, 5))]
+WORDS_OF_MOMENTS = [("2020-02-29{}12:30:45Z", "Tt _-0", (0, 1, 2, 3)), ("2020-02-2{}:30:45Z", "9T1t", (3, 4, 5))]
+WORDS_OF_DURATIONS = [("P{}", "1TDMHSYW", (1, 2, 3, 4)), ("{}", "P1TD-. ", (1, 2, 3, 4)),
+                      ("P{}", ("1Y", "1M", "1D", "T", "1H", "1S", "1W"), (2, 3, 4))]
+
+
 def time_rows():
     """The rows of dates, times, date-times and durations."""
+    yield from word_rows([("time", is_full_time, WORDS_OF_TIMES), ("date", is_date, WORDS_OF_DATES),
+                          ("date-time", is_date_time, WORDS_OF_MOMENTS),
+                          ("duration", whole(DURATION), WORDS_OF_DURATIONS)])
+    yield from other_forms()
+    yield from pair_rows([("date", is_date, ("2024-02{}9", "{}24-02-29")),
+                          ("duration", whole(DURATION), ("P1{}", "PT1{}")),
+                          ("time", is_full_time, ("12:30:45{}Z", "12:30{}5Z", "12:30:45.5{}")),
+                          ("date-time", is_date_time, ("2024-02-29{}2:30:45Z", "2024-02-29T12:30:45.1{}"))])
+    yield from short_rows({"date": is_date, "time": is_full_time, "date-time": is_date_time,
+                           "duration": whole(DURATION)})
     yield from decorated_times()
     yield from day_rows()
     yield from offset_rows()
@@ -410,6 +586,9 @@ def time_rows():
     edges = [f"{day}T{time}{zone}" for day in ("0000-01-01", "9999-12-31") for time in ("00:00:00", "23:59:59")
              for zone in ("+00:01", "-00:01", "+23:59", "-23:59")]
     yield texts("date-time", edges, lambda text: True)
+    yield from pairs_of_times()
+    yield "each letter of each row of units in lower case, changed into each other one, doubled and left out"
+    yield texts("duration", letters_of_durations(), whole(DURATION))
 
 
 # Addresses, names and UUIDs: RFC 3986, section 3.2.2, RFC 1034, section 3.5, RFC 9562, section 4.
@@ -496,10 +675,65 @@ PLACED = ["a", "0", "12", "A", "aB", "b-c", "a" * 63, "ab-c", "ab--c", "1a", "-a
           "a_", "a b", "a$", "\u00e9"]
 
 
+# The parts of an IPv4 address. In mail addresses zeros may lead in its numbers.
+OCTETS = (["0", "1", "9", "10", "99", "100", "127", "199", "200", "249", "250", "255"],
+          ["", "00", "01", "001", "010", "0001", "256", "260", "300", "999", "1000", "a", "-1", " 1", "0x1"])
+DOTTED = [OCTETS, *[part for _ in range(3) for part in ((["."], ["", "..", ",", ":", "/"]), OCTETS)]]
+
+# Parts of IPv6 addresses: groups of each spelling, by turns, and what may stand for the last two.
+SPELLED = ("0", "0000", "a", "A", "aB", "00f0", "ffff", "FFFF", "0001", "9", "E0e0")
+LAST_ADDRESSES = ("0.0.0.0", "255.255.255.255", "1.20.255.9", "127.0.0.1", "01.2.3.4", "1.2.3.00", "1.2.3.256")
+
+
+def spelled_addresses():
+    """So many groups of each spelling before `::` and behind it, with each IPv4 address at the end and without."""
+    turns = itertools.cycle(SPELLED)
+    for before, behind, spelling in itertools.product(range(9), range(9), SPELLED):
+        if before + behind < 10:
+            of_one, of_all = [spelling] * (before + behind), [next(turns) for _ in range(before + behind)]
+            for groups in (of_one, of_all):
+                front, back = ":".join(groups[:before]), ":".join(groups[before:])
+                yield f"{front}::{back}"
+                last = LAST_ADDRESSES[(before * 3 + behind + len(spelling)) % len(LAST_ADDRESSES)]
+                yield f"{front}::{back}:{last}" if back else f"{front}::{last}"
+    for count, last in itertools.product(range(1, 10), LAST_ADDRESSES):
+        for spelling in SPELLED[::2]:
+            yield from (":".join([spelling] * count), ":".join([spelling] * count + [last]))
+
+
+def uuids():
+    """Each pair of digits that version and variant may be, and digits of each kind in each group."""
+    for version, variant in itertools.product("0123456789abcdef", repeat=2):
+        yield f"f81d4fae-7dec-{version}1d0-{variant}765-00a0c91e6bf6"
+        yield f"F81D4FAE-7DEC-{version}1D0-{variant}765-00A0C91E6BF6".upper()
+        yield f"00000000-0000-{version}000-{variant}000-000000000000"
+        yield f"FfFfFfFf-fFfF-{version}FfF-{variant}fFf-FFFFFFffffff"
+    kinds = ("0", "9", "f", "F", "aB", "0Af", "g", "-")
+    groups = [([(kind * size)[:size] for kind in kinds[:6]],
+               ["0" * (size - 1), *[(kind * size)[:size] for kind in kinds[6:]]]) for size in (8, 4, 4, 4, 12)]
+    parts = [part for group in groups for part in (group, (["-"], ["", ":", "--"]))][:-1]
+    yield from by_pairs(parts, 1)
+
+
+# Labels of a host name, each of which may stand beside each.
+KINDS_OF_LABELS = ["a", "Z", "0", "12", "1a", "a1", "b-c", "b--c", "ab--c", "xn--a", "XN--B", "x" * 62, "9" * 63,
+                   "0x7f", "localhost", "-a", "a-", "-", "a" * 64, "", "a_b", "_a", "\u00e9", " ", "a\n"]
+
+
 def host_name_rows():
     """Host names of RFC 1034, and the labels at the front of texts."""
     yield "a rule of a label holds at each place of a name: the first, the second, the third and the last"
     yield texts("hostname of RFC 1034", at_places(PLACED, "a"), whole(NAME))
+    yield "hyphens, digits and labels some times over"
+    signs = ["-", "a-", "-a", "--a", "1", "1.", "A.", "a-b.", "xn--a.", ".", "_"]
+    for of in ("hostname of RFC 1034", "hostname"):
+        yield repeated(of, signs[:8] + signs[9:] if of == "hostname" else signs,
+                       [["a", "b"], ["a.b", "c.d"], ["", "a"], ["a", ""], ["ab-", "c"]], lambda text, of=of:
+                       bool(whole(NAME)(text)) and (of != "hostname" or all(it[2:4] != "--" for it in text.split("."))))
+    yield "labels of each kind beside each other, alone and around a third"
+    pairs = [form.format(*pair) for form in ("{}.{}", "{}.a.{}")
+             for pair in itertools.product(KINDS_OF_LABELS, repeat=2)]
+    yield texts("hostname of RFC 1034", pairs, whole(NAME))
     yield "lengths to 1,000"
     yield counts("hostname of RFC 1034", "a", 1, 63, 1001, [["", ""], ["", ".b"], ["b.", ""]])
     yield counts("hostname of RFC 1034", "1.", 0, 126, 501, [["", "a"]])
@@ -524,6 +758,11 @@ def host_name_rows():
             is_label = size < 64 and behind[:1] in ("", ".")
             rows.append(["a" * size + behind, "a" * size if is_label else None])
     yield first_labels(rows)
+    behinds = ["", ".", ".b", "..", "-.", "-", "_", "_.b", "\u00e9", " .", "\u3002b", "\n", ".\u00e9",
+               "." * 300, "\u0000."]
+    fronts = [f"{label}{behind}" for label in KINDS_OF_LABELS for behind in behinds]
+    labels = [front.partition(".")[0] for front in fronts]
+    yield first_labels([[front, label if whole(LABEL)(label) else None] for front, label in zip(fronts, labels)])
 
 
 def uuid_rows():
@@ -535,14 +774,61 @@ def uuid_rows():
     shorter = [uuid[:at] + uuid[at + 1:] for at in range(36)]
     longer = [uuid[:at] + "0" + uuid[at:] for at in range(37)]
     yield texts("uuid", notations + around(uuid) + spoilt + shorter + longer, whole(UUID))
+    yield "each version with each variant, and digits of each kind in each group: no rule looks at them"
+    yield texts("uuid", uuids(), whole(UUID))
+
+
+# What other standards and programs write for an address, a host or a UUID.
+OTHER_ADDRESSES = [
+    "1.2.3", "1.2.3.4.5", "1.2.3.4/8", "0x7f.0.0.1", "0177.0.0.1", "127.1", "2130706433", "1.2.3.4:80", "1.2.3.",
+    ".1.2.3", "1..2.3", "256.0.0.1", "1,2,3,4", "1.2.3.-4", "+1.2.3.4", "1.2.3.4a", "[1.2.3.4]", "1.2.3.4%eth0",
+    "1.2.3.0x4", "1e1.2.3.4", "1.2.3.4.", "001.002.003.004", "1.2.3.*", "1.2.3.0/24", "1.2.3.4-5",
+    "4.3.2.1.in-addr.arpa", "localhost", "::1%eth0", "::1%25eth0", "[::1]", "::1/64", "[::1]:80", "1::2::3",
+    "::ffff:1.2.3", "::1.2.3.4.5", "1:2:3:4:5:6:7", "1:2:3:4:5:6:7:8:9", ":::", ":", "::", "1:::2", ":1", "1:",
+    "12345::", "::g", "::-1", "::0x1", "fe80::1%1", "1.2.3.4::", "::1.2.3.4:5", "1:2:3:4:5:6:7:1.2.3.4", "::1.2.3.4/96",
+    "IPv6:::1", "::.1.2.3.4", "::ffff:0x1.2.3.4", "::ffff:1.2.3.04", "1-2--3.ipv6-literal.net", "0:0:0:0:0:0:0:0",
+    "0::0", "::0000", "::00000", "1:2:3::4:5:6:7:8", "1:2:3:4:5:6::7:8", "ff02::1", "::ffff:0:0", "64:ff9b::1.2.3.4",
+    "2001:DB8::a", "00ab-00cd::"]
+OTHER_HOSTS = [
+    "a.", "*.a", "_a.b", "a_b", "a..b", "", "-a", "a-", "xn--", "a b", "a@b", "a:80", "http://a", "//a", "a/", "[::1]",
+    "1.2.3.4", "1.2.3.4.", "::1", "a%2eb", "\u00e9", "a\u3002b", "..", ".", "a,b", "a;b", "a.b.", "1", "0x1", "1.2",
+    "a--b", "-", "--", "a.-", "a.-b", "a-.b", "a.b-", "b_.a", "$a", "a&b", "a+b", "a=b", "a'b", "a\\b", "localhost",
+    "a.b:"]
+OTHER_UUIDS = [
+    "urn:uuid:{}", "{{{}}}", "({})", "[{}]", "'{}'", "{}\n", " {}", "{} ", "uuid:{}", "guid:{}", "0x{}", "{}-0", "0-{}",
+    "{}0", "0{}", "{}/", "/{}", "{}#", "URN:UUID:{}", "urn:oid:{}", "{},", "-{}", "{}-", "%7B{}%7D"]
+WORDS_OF_SIX = [("{}", ("1:", ":", "f", "1.2.3.4"), range(2, 7)), ("1:2:3:4{}", (":", "5", "::", ":6"), range(1, 6)),
+                ("::{}", "1:.F", range(1, 6)), ("{}::", "1:0", range(1, 7))]
+WORDS_OF_FOUR = [("{}.1.1", "12.", range(1, 7)), ("1.1.{}", "0.2", range(1, 7)),
+                 ("{}", ("1", ".", "255", "0"), range(1, 7)), ("10.{}.1.1", "0259", range(1, 5))]
+WORDS_OF_NAMES = [("{}", "a-.1", range(1, 7)), ("{}.a", "A-_.", (1, 2, 3, 4))]
 
 
 def net_rows():
     """The rows of addresses, host names and UUIDs."""
+    yield from word_rows([("ipv4", whole(IPV4), WORDS_OF_FOUR), ("ipv6", whole(IPV6), WORDS_OF_SIX),
+                          ("hostname of RFC 1034", whole(NAME), WORDS_OF_NAMES)])
+    yield "what other standards and programs write for an address, a host or a UUID"
+    yield texts("ipv4", OTHER_ADDRESSES, whole(IPV4))
+    yield texts("ipv6", OTHER_ADDRESSES, whole(IPV6))
+    yield texts("hostname of RFC 1034", OTHER_HOSTS + OTHER_ADDRESSES, whole(NAME))
+    of_uuids = ["f81d4fae-7dec-11d0-a765-00a0c91e6bf6", "F81D4FAE7DEC11D0A76500A0C91E6BF6"]
+    yield texts("uuid", in_forms(OTHER_UUIDS, of_uuids), whole(UUID))
+    yield from pair_rows([("hostname of RFC 1034", whole(NAME), ("a{}b", "{}b.c", "a.b{}")),
+                          ("ipv4", whole(IPV4), ("1.2{}4", "{}.2.3.4")),
+                          ("ipv6", whole(IPV6), ("::1{}2", "1:{}:2", "::1.2.3{}")),
+                          ("uuid", whole(UUID), ("f81d4fa{}7dec-11d0-a765-00a0c91e6bf6",
+                                                 "f81d4fae-7dec-11d0-a765-00a0c91e6b{}"))])
+    yield from short_rows({"ipv4": whole(IPV4), "ipv6": whole(IPV6), "uuid": whole(UUID),
+                           "hostname of RFC 1034": whole(NAME)})
     yield "IPv4: each octet at each place, with leading zeros and above 255"
     yield texts("ipv4", addresses_of_four(), whole(IPV4))
     yield "IPv6: so many groups before `::` and behind it, and an IPv4 address at the end"
     yield texts("ipv6", addresses_of_six(), whole(IPV6))
+    yield texts("ipv6", spelled_addresses(), whole(IPV6))
+    yield "each number at each place of an IPv4 address beside each other one, alone and at the end of an IPv6 address"
+    yield texts("ipv4", by_pairs(DOTTED, 1), whole(IPV4))
+    yield texts("ipv6", [f"::{address}" for address in by_pairs(DOTTED, 1)], whole(IPV6))
     yield texts("ipv6", around("::1") + around("1:2:3:4:5:6:7:8"), never)
     yield from host_name_rows()
     yield from uuid_rows()
@@ -734,8 +1020,71 @@ MAIL_CONSTRUCTS = ['"a"', "\\a", '\\"', "\\\\", "\\ ", "\\\t", "(c)", "()", " ",
                    "\u0000", "\u007f", "\u0080", '"', "mailto:", "a" * 63, "+tag", "!", "|", "`", "{}"]
 
 
+# The parts of a mail address: two of a local part, two of a domain, right and wrong ones.
+SOME_ATOMS = ["a", "1", "-", "_", "+", "{|}", "!#$%&'*/=?^`~", "A.b", "a.1.-"]
+FIRST_ATOMS = (SOME_ATOMS, [".a", "a.", "a..b", "a b", "a\"", "\\a", "(a)", "a,b", "<a", ""])
+MORE_ATOMS = (["", ".a", ".0", "-", ".!", "+tag"], [".", "..a", "@", " ", ".\"a\"", ":", ";"])
+QUOTED = (["", "a", " ", "@", ".", "..", "\\\"", "\\\\", "\\ ", "\\a", "()<>[]:;,", "a\\@b"],
+          ["\"", "\\", "\t", "\u007f", "\\\t", "\r\n", "\u0000"])
+MAIL_LABELS = (["b", "0", "B-c", "b--c", "xn--a", "1b", "c" * 63], ["", "-b", "b-", "b_c", "c" * 64, "b c", "b\""])
+MORE_LABELS = (["", ".c", ".1", ".c.d", ".xn--a", ".C-d"], [".", "..c", ".-", "@c", ".c.", ":25", "/c", ".[1.2.3.4]"])
+TAGS = (["IPv6:", "ipv6:", "IPV6:"], ["IPv6", "IPv4:", "IPv6::::", "-:", "IP v6:", ":"])
+SIXES = (["::", "1::", "::1", "1::2", "1:2:3:4:5:6:7:8", "1:2:3:4:5:6::", "::1:2:3:4:5:6", "1:2:3::4:5:6", "::1.2.3.4",
+          "::1:2:3:4:1.2.3.4", "1:2:3:4::1.2.3.4", "1:2::3:4:1.2.3.4", "1:2:3:4:5:6:001.02.3.255", "AbCd::0000"],
+         ["", ":", "1", "1:2:3:4:5:6:7::", "::1:2:3:4:5:6:7", "1:2:3:4::5:6:7", "::1:2:3:4:5:1.2.3.4",
+          "1:2:3:4:5::1.2.3.4", "1:2:3:4:5:6:7:1.2.3.4", "1::2::3", "12345::", "::1.2.3", "::1.2.3.256", "g::"])
+GENERAL = (["b:", "B-1:", "-b:", "0:", "IPv:", "xIPv6:", "IPv6x:"], ["", ":", "b-:", "b", "b_:", "b c:"])
+CONTENTS = (["c", "1.2.3.4", "::", ":", "!", "~", "^", "c:d", "\"", "@", "{}", "<>"],
+            ["", " ", "[", "]", "\\", "c d", "\u007f"])
+# What stands behind in the rows of internationalised ones: characters past ASCII.
+WIDE_ATOMS = ["\u00e9", "a\u00e9", "\u4e00.\u05d0", "\U0001f600", "\u0301", "\u0080"]
+WIDE_QUOTED = ["\u00e9", "\u00e9 \\\"", "\u0080", "\U0010ffff"]
+WIDE_LABELS = (["\u00e9", "b\u00fccher", "\u05d0", "\u4e00", "a\u0e48", "l\u00b7l", "\u0915\u094d\u200d", "\u06f0"],
+               ["\u00c9", "\u0301a", "\u00e9-", "-\u00e9", "e\u0301", "\u05d0a", "l\u00b7", "\u200d", "\U0001f600",
+                "\uff41", "aa--\u00e9"])
+
+
+def pairs_of_mail(is_wide):
+    """Addresses of all parts, with each choice of each part beside each of each other one."""
+    at, quote, close = (["@"], ["", "@@", ".@"]), (['"'], ["", '""']), (["]"], ["", "]]", "].b"])
+    atoms, inside, labels, more = FIRST_ATOMS, QUOTED, MAIL_LABELS, MORE_LABELS
+    if is_wide:
+        atoms = (SOME_ATOMS[::2] + WIDE_ATOMS, FIRST_ATOMS[1][::2])
+        inside = (QUOTED[0][::2] + WIDE_QUOTED, ["\\\u00e9", "\""])
+        labels = (MAIL_LABELS[0][::2] + WIDE_LABELS[0], MAIL_LABELS[1][::2] + WIDE_LABELS[1])
+        more = (MORE_LABELS[0][::2] + [f".{label}" for label in WIDE_LABELS[0][::2]],
+                [*MORE_LABELS[1][::2], *[f".{label}" for label in WIDE_LABELS[1][::2]],
+                 "\u3002c", "\uff0e", ".\u00e9."])
+    for local in ([atoms, MORE_ATOMS], [quote, inside, quote]):
+        yield from by_pairs([*local, at, labels, more], 1)
+        yield from by_pairs([*local, at, (["["], ["", "[["]), TAGS, SIXES, close], 1)
+        yield from by_pairs([*local, at, (["["], ["", " ["]), GENERAL, CONTENTS, close], 1)
+
+
+WORDS_OF_MAIL = [("{}", "a.@\"\\[] ", (3, 4)), ("{}@b", "a.\"\\ @", (3, 4)), ("a@{}", "a.-[]:1", (3, 4)),
+                 ("a@[{}]", "a:-1.[", (2, 3, 4)), ('"{}"@b', "a\"\\ .@", (3, 4)),
+                 ("a@[IPv6:{}]", ("1:", ":", "f", "1.2.3.4"), range(2, 7)), ("a@[{}.1]", "012.", (3, 4, 5))]
+WORDS_OF_WIDE_MAIL = [("{}@b", "\u00e9.\"\\a", (2, 3, 4)), ("\u00e9@{}", "\u00e9.-a1", (2, 3, 4)),
+                      ("a@{}", "\u05d0.1a\u0301", (2, 3, 4)), ("a@{}", "\u00e9@[]:", (2, 3))]
+
+
 def mail_rows():
     """The rows of mail addresses."""
+    yield from word_rows([("email", is_mailbox, WORDS_OF_MAIL),
+                          ("idn-email", is_any_mailbox, WORDS_OF_MAIL[:5] + WORDS_OF_WIDE_MAIL)])
+    yield from pair_rows([("email", is_mailbox, ('"{}"@b', "a{}b@c", "a@b{}c", "a@[b:{}]", "a@[IPv6:{}::]")),
+                          ("idn-email", is_any_mailbox,
+                           ('"\u00e9{}"@b', "\u00e9{}b@c", "a@\u00e9{}c", "a@b.{}\u00e9"))])
+    addresses = [*spelled_addresses(), *OTHER_ADDRESSES]
+    yield texts("email", in_forms(("a@[IPv6:{}]",), addresses), is_mailbox)
+    yield texts("email", in_forms(("a@[{}]", "a@{}"), OTHER_ADDRESSES + OTHER_HOSTS), is_mailbox)
+    forms = ("\u00e9@[IPv6:{}]", "\u00e9@[{}]", "\u00e9@{}")
+    yield texts("idn-email", in_forms(forms, OTHER_ADDRESSES), is_any_mailbox)
+    tags = ["".join(letters) for letters in itertools.product("Ii", "Pp", "Vv", "6")]
+    yield texts("email", in_forms(("a@[{}:::]", "a@[{}:1::]", "a@[{}:a]", "a@[{}]"), tags), is_mailbox)
+    yield from short_rows({"email": is_mailbox, "idn-email": is_any_mailbox})
+    yield texts("email", in_forms(("a@{}", "{}@b"), words(SIGNS, (1, 2))), is_mailbox)
+    yield texts("idn-email", in_forms(("\u00e9@{}", "{}@\u00e9"), words(SIGNS, (1, 2))), is_any_mailbox)
     yield "local parts and domains of each kind, each with each other"
     both = [f"{local}@{domain}" for local in LOCAL_PARTS for domain in DOMAINS]
     yield texts("email", both, is_mailbox)
@@ -753,6 +1102,25 @@ def mail_rows():
     yield texts("email", [f"a@{domain}" for domain in domains], is_mailbox)
     yield texts("email", [f"a@[b:{'c' * rest}]" for rest in (1, 250, 251, 252, 253, 508, 1000)], is_mailbox)
     yield texts("email", around("a@b") + around('"a"@[1.2.3.4]'), is_mailbox)
+    yield "each sign some times over, in atoms, between quotes, in labels and in addresses in brackets"
+    signs = [*"!#$%&'*+-/=?^_`{|}~.@:;,()<>[] \"\\", ".a", "..", '\\"', "\\\\", "\\ ", "\\@", "a.", "1.", "-a", ":a",
+             "a:"]
+    places = [["a", "b@c"], ["", "@c"], ['"', '"@c'], ['"a', 'b"@c'], ["a@b", "c"], ["a@b.", "c.d"], ["a@[b:", "]"],
+              ["a@[b:c", "d]"], ["a@[b", "c:d]"], ["a@[IPv6:::", "]"], ["a@[1.2.3.", "4]"]]
+    yield repeated("email", signs, places, is_mailbox)
+    signs += ["\u00e9", "\u0301", "\u4e00.", "\\\u00e9", "\u3002"]
+    yield repeated("idn-email", signs, places[:9], is_any_mailbox)
+    yield "each choice of a part with each of each other part: atoms, quotes, labels and addresses in brackets"
+    yield texts("email", pairs_of_mail(False), is_mailbox)
+    yield texts("email", in_forms(("a@[{}]", "a@[IPv6:::{}]"), by_pairs(DOTTED, 1)), is_mailbox)
+    yield texts("idn-email", pairs_of_mail(True), is_any_mailbox)
+    yield "a part of each kind, of as many octets as it may have and one more, before a domain of each kind at its most"
+    sizes_of = {"*": (63, 64, 65), "*.b": (61, 62, 63), '"*"': (61, 62, 63), '"\\\\*"': (60, 61), '"* @"': (60, 61)}
+    fronts = [form.replace("*", "a" * size) for form, sizes in sizes_of.items() for size in sizes]
+    rest = ".".join(["d" * 63] * 3)
+    behinds = ["b", "[1.2.3.4]", "[IPv6:::]", f"{rest}.{'e' * 62}", f"{rest}.{'e' * 63}", f"{'d' * 63}.e",
+               f"{'d' * 64}.e", f"e.{'d' * 63}", f"e.{'d' * 64}", f"[b:{'c' * 250}]", f"[b:{'c' * 251}]"]
+    yield texts("email", [f"{front}@{behind}" for front in fronts for behind in behinds], is_mailbox)
     yield "each construct at each place: what RFC 5322, RFC 6068 and others have there makes no address"
     constructed = with_each(MAIL_CONSTRUCTS, MAIL_PLACES)
     yield texts("email", constructed, is_mailbox)
@@ -933,6 +1301,10 @@ def bracket_rows():
     places = {"uri": "a://{}", "uri-reference": "//{}", "iri": "a://u@{}:8/p", "iri-reference": "//{}?q"}
     for of, place in places.items():
         yield texts(of, [place.format(f"[{inside}]") for inside in in_forms(forms, lasts)], URI_RULES[of])
+    addresses = [f"[{address}]" for address in [*spelled_addresses(), *in_forms(("::{}",), by_pairs(DOTTED, 1)),
+                                                *OTHER_ADDRESSES]]
+    for at, (of, place) in enumerate(places.items()):
+        yield texts(of, in_forms((place,), addresses[at % 2::2]), URI_RULES[of])
 
 
 # What may stand at one place of a URI and not at another: percent-encodings, delimiters, and characters past ASCII.
@@ -992,8 +1364,84 @@ def uri_construct_rows():
         yield texts(of, [other for text in wholes for other in [text, *around(text)]], rule)
 
 
+# The parts of a URI: a scheme, a userinfo, a host, a port, a path, a query and a fragment, right and wrong ones.
+SCHEMES = (["a:", "Ab:", "http:", "A1:", "x+y:", "x-y.z:", "file:", "c:"],
+           ["1a:", "+a:", "a_b:", "\u00e9:", "%41:", ":"])
+USERS = (["", "@", "u@", ":@", "u:p@", "u:p:q@", "%40@", "a%3ab@", "!$&'()*+,;=@", "~-._@"],
+         ["u@v@", "[@", "%4@", "^@"])
+HOSTS = (["", "h", "h.", "a.b-c", "_h", "~", "%68%2e", "!$&'()*+,;=", "1.2.3.4", "256.1.1.999", "1.2.3", "[::]",
+          "[1::2]", "[::ffff:1.2.3.4]", "[1:2:3:4:5:6:7:8]", "[v1.a]", "[VFf.x:y!]"],
+         ["[", "]", "[]", "[::1", "::1]", "[1.2.3.4]", "[::1%25e]", "[v.a]", "[v1.]", "h|", "%"])
+PORTS = (["", ":", ":0", ":00", ":80", ":65535", ":65536", ":99999999999999999999"], [":a", ":-1", ":8:9", ":%38"])
+TAILS = (["", "/", "//", "/a", "/a/", "/a//b", "/.", "/..", "/../a", "/a/./b", "/:", "/a:b", "/@", "/a@b:c", "/%2F",
+          "/%00", "/%ff%41", "/!$&'()*+,;=", "/~-._", "/1"], ["/[", "/]", "/%", "/%4g", "/|", "/^", "/\\"])
+QUERIES = (["", "?", "??", "?a", "?a=b&c", "?/", "?a/b?c", "?:@", "?//h", "?%23", "?!$&'()*+,;=", "?a:b", "?@"],
+           ["?[", "?]", "?%", "?|", "?{}", "? "])
+FRAGMENTS = (["", "#", "#a", "#/a?b", "#?", "#//h", "#:@", "#%23", "#!$&'()*+,;=", "#a:b", "#@"],
+             ["##", "#a#", "#[", "#%g1", "#\""])
+ROOTLESS = (["a", "a/b", "a:b", ":", "@", "a@b", "1", ".", "..", "./a:b", "../", "a//b", "%41", "%3a:", "'", "~", "*:",
+             "a/b:c", "+1", "1a:b", "a/", "a/b/"], ["[", "%", "a|b", "\\", "<a>"])
+WIDE_OF = {"userinfo": (USERS, ["\u00e9@", "a:\u4e00@", "\u202e@"], ["\ue000@"]),
+           "host": (HOSTS, ["\u00e9", "b\u00fccher.\u4e2d", "\uff0e", "\u200d.a", "%C3\u00e9"], ["\ue000", "[\u00e9]"]),
+           "path": (TAILS, ["/\u00e9", "/\U00020000/a", "/a:\uffef"], ["/\ue000", "/\ufdd0"]),
+           "rootless": (ROOTLESS, ["\u00e9", "\u00e9:a", "a/\u4e00"], ["\uf8ff", "\ufffe"]),
+           "query": (QUERIES, ["?\u00e9", "?\ue000", "?a\U000f0000/\U0010fffd"], ["?\ufdd0", "?\U000fffff"]),
+           "fragment": (FRAGMENTS, ["#\u00e9", "#\u4e00?"], ["#\ue000", "#\U00100000"])}
+
+
+def pairs_of_uris(of):
+    """URIs or IRIs of all parts, with each choice of each part beside each of each other one.
+
+    What is wrong is asked of URIs and of references of IRIs, which are read alike.
+    """
+    def part(name):
+        """The choices of a part. For IRIs they have characters past ASCII, which are all wrong ones for URIs."""
+        (rights, wrongs), wide, none = WIDE_OF[name]
+        return (rights + wide, wrongs + none) if of.startswith("iri") else (rights, wrongs + wide[:1] + none[:1])
+
+    schemes = ([*SCHEMES[0][:6], ""], SCHEMES[1]) if of.endswith("reference") else SCHEMES
+    ends = [part("query"), part("fragment")]
+    absolute = (["", *[tail for tail in TAILS[0] if tail[:2] != "//"]], TAILS[1])
+    for parts in ([schemes, (["//"], [":"]), part("userinfo"), part("host"), PORTS, part("path"), *ends],
+                  [schemes, part("rootless"), *ends], [schemes, absolute, *ends]):
+        yield from by_pairs([part if of in ("uri", "iri-reference") else (part[0], []) for part in parts], 1)
+
+
+# A percent-encoding of each byte, in each choice of letter cases.
+ENCODED_BYTES = [f"%{first}{second}" for first, second in itertools.product("0123456789abcdefABCDEF", repeat=2)]
+PLACES_OF_PAIRS_IN_URIS = ("a://{}@b", "a://c{}", "a:/{}", "a:{}", "a:?{}", "a:#{}", "a://[v1.{}]", "a://b:8{}", "{}:b")
+WORDS_OF_URIS = [("{}", ":/?#@[]a", (3, 4)), ("a:{}", "/:?#@1", (3, 4)), ("//{}", "a:@[]/", (3, 4)),
+                 ("a://{}", "a:@%.1", (3, 4)), ("a://[{}]", "v1.a:F", (2, 3, 4)), ("{}", "a1+.-:", (3, 4)),
+                 ("a/{}", "%4aG/", (3, 4)), ("?{}", "%2F?#", (3, 4))]
+WORDS_OF_TEMPLATES = [("{}", "{}a,:1*", (3, 4)), ("{{{}}}", "a,.:*1%4", (3, 4)), ("{{a{}", "}}{,*:0", (3, 4)),
+                      ("{{{}b}}", "+#a?&,.", (2, 3)), ("{{a:{}}}", "019,*b", (2, 3, 4)), ("a{}", "%4g{}'", (3, 4))]
+WORDS_OF_POINTERS = [("{}", "/~01a#", (3, 4)), ("/{}", "~012/", (3, 4, 5))]
+WORDS_OF_RELATIVE_POINTERS = [("{}", "01/~#a-+", (3, 4)), ("1{}", "/~01#", (3, 4, 5))]
+WORDS_OF_IRIS = [*WORDS_OF_URIS, ("{}", ":/?#\u00e9\ue000", (3, 4)), ("//{}", "\u00e9:@\ue000", (3, 4)),
+                 ("{}:", "a\u00e9\ue0001", (2, 3))]
+
+
 def uri_rows():
     """The rows of URIs, IRIs, their references, templates and pointers."""
+    yield from word_rows([
+        *[(of, rule, WORDS_OF_IRIS if of.startswith("iri") else WORDS_OF_URIS) for of, rule in URI_RULES.items()],
+        ("uri-template", whole(TEMPLATE), WORDS_OF_TEMPLATES),
+        ("json-pointer", whole(f"(?s:{POINTER})"), WORDS_OF_POINTERS),
+        ("relative-json-pointer", whole(rf"(?s:(?:0|[1-9][0-9]*)(?:#|{POINTER}))"), WORDS_OF_RELATIVE_POINTERS)])
+    yield from pair_rows([
+        ("uri", URI_RULES["uri"], PLACES_OF_PAIRS_IN_URIS),
+        ("iri-reference", URI_RULES["iri-reference"], [form.removeprefix("a:") for form in PLACES_OF_PAIRS_IN_URIS]),
+        ("uri-template", whole(TEMPLATE), ("a{}b", "{{{}}}", "{{a{}b}}", "{{+a,{}}}")),
+        ("json-pointer", whole(f"(?s:{POINTER})"), ("/{}", "/a~0{}")),
+        ("relative-json-pointer", whole(rf"(?s:(?:0|[1-9][0-9]*)(?:#|{POINTER}))"), ("1{}", "0/{}"))])
+    yield "each byte percent-encoded, with digits of base 16 in each letter case, at each place: none asks what it is"
+    places = ("a://{}@b", "a://{}", "a:/{}", "a:{}b", "a:?{}", "a:#{}", "a://[v1.{}]", "{}:b")
+    for of, rule in URI_RULES.items():
+        forms = [form.removeprefix("a:") if of.endswith("reference") else form for form in places]
+        yield texts(of, in_forms(forms, ENCODED_BYTES), rule)
+    yield texts("uri-template", in_forms(("{}", "{{{}}}", "{{a.{}*}}", "{{?a,{}:3}}"), ENCODED_BYTES), whole(TEMPLATE))
+    yield from short_rows({**URI_RULES, "uri-template": whole(TEMPLATE), "json-pointer": whole(f"(?s:{POINTER})"),
+                           "relative-json-pointer": whole(rf"(?s:(?:0|[1-9][0-9]*)(?:#|{POINTER}))")})
     yield ("URIs, IRIs and their references: empty parts, userinfos with colons, ports, and what follows "
            "(RFC 3986, appendix A; RFC 3987, section 2.2)")
     authorities, paths = list(parts_of_uris()), list(paths_of_uris())
@@ -1002,6 +1450,18 @@ def uri_rows():
     yield "what ends an authority, and what stands behind it"
     for of, rule in URI_RULES.items():
         yield texts(of, ends_of_authorities(), rule)
+    yield "each sign and each escape some times over, at each place: a rule admits it once or as often as one likes"
+    signs = [*SUB_DELIMS, *"-._~:@/?#%[", "%41", "%c3%A9", "/.", "../", "a:", "1"]
+    places = [["a://", "@b"], ["a://b", "c@d"], ["a://", ""], ["a://b", ":8/"], ["a://b:", "/"], ["a://b/", ""],
+              ["a:/b", "/c"], ["a:", "b"], ["a:?", ""], ["a:b?c", "#d"], ["a:#", ""], ["a:?b#c", "d"],
+              ["a://[v1.", "]"], ["a://[v1", ".a]"], ["a", ":b"]]
+    of_references = [[before.removeprefix("a:"), behind] for before, behind in places[:-1]] + [["./", ""], ["b", "/c"]]
+    for of, rule in URI_RULES.items():
+        wide = ["\u00e9", "\ue000", "\u202e"] if of.startswith("iri") else []
+        yield repeated(of, signs + wide, of_references if of.endswith("reference") else places, rule)
+    yield "each choice of a part with each of each other part, right ones and one wrong one: no two are against another"
+    for of, rule in URI_RULES.items():
+        yield texts(of, pairs_of_uris(of), rule)
     yield from uri_character_rows()
     yield from uri_length_rows()
     yield from bracket_rows()
@@ -1035,6 +1495,17 @@ def templates():
     yield from (f"{{a:{length}}}" for length in words("019", (1, 2, 3, 4, 5)))
 
 
+LITERALS = (["", "a", "/", "'", "[]", "%41", "\u00e9", "\ue000", "\U0010ffff", "{x}", "{+y*}", "!$&()*+,;=:@"],
+            ["%", "%4", "|", "^", "`", " ", "}", "{", "\"", "\\", "<a>", "\u007f"])
+OPERATORS = (["", *"+#./;?&=,!@|"], ["$", "++", "-", "~", ":", "*", "?&"])
+NAMES_OF_VARIABLES = (["a", "A", "9", "_", "a_9", "a.b", "a.b.c", "%41", "a%4A", "a.%c3%A9", "%c3.9", "0.0"],
+                      ["", ".a", "a.", "a..b", "a-b", "a~", "%4", "\u00e9", " a", "{a", "a b"])
+MODIFIERS = (["", "*", ":1", ":9", ":10", ":999", ":9999"],
+             [":", ":0", ":01", ":10000", ":1*", "*:1", "**", ":a", "+", "="])
+FURTHER = (["", ",b", ",b*", ",%41:3", ",b.c,d:9999", ",a", ",_,9*,a"],
+           [",", ",,b", ", b", ",+b", ",b-c", ",b:0", ";b", ",b*,"])
+
+
 def template_rows():
     """The rows of URI templates."""
     yield "templates: each operator, names and modifiers (RFC 6570, section 2)"
@@ -1057,6 +1528,16 @@ def template_rows():
     yield counts("uri-template", "a.", 0, 500, 501, [["{", "b}"], ["{?b,", "c:10}"]])
     yield counts("uri-template", "a,", 0, 500, 501, [["{", "b}"], ["{&", "b*}"]])
     yield counts("uri-template", "%4a", 0, 330, 331, [["", ""], ["{a", "}"]])
+    yield "each sign some times over, in literals, names and lists"
+    signs = ["a", "_", "%41", ".a", "._", ".%41", "..", ",a", ",a*", ",a:1", ",%41.b:9999", ",", "*", ":1", "1", "{a}",
+             "{+a*}", "}{", "/", "'", "%", "[", "\u00e9", "\ue000", "{?a,b}x", "!", "$", "&", "(", "=", "@", "~", "|"]
+    places = [["", ""], ["a", "b"], ["{a", "}"], ["{a.", "b}"], ["{?a,", "b}"], ["{a", "*,b}"], ["{", "a}"],
+              ["{a:", "}"], ["{a}", "{b}"]]
+    yield repeated("uri-template", signs, places, is_template)
+    yield "each choice of a part with each of each other part: literals, operators, names, modifiers, more variables"
+    parts = [LITERALS, (["{"], ["", "{{"]), OPERATORS, NAMES_OF_VARIABLES, MODIFIERS, FURTHER, (["}"], ["", "}}"]),
+             LITERALS]
+    yield texts("uri-template", by_pairs(parts, 1), is_template)
     yield "a rule of a variable holds in each of three, and in each of two expressions"
     variables = ["a", "a-b", "%41", "a%4a", "a.b", "a..b", ".a", "a.", "a:1", "a:10", "a:9999", "a:10000", "a:0",
                  "a:01", "a*", "a:1*", "a*:1", "a_b", "_a", "1a", "1", "+a", "?a", " a", "a ", "a$b", "$a", "A",
@@ -1110,6 +1591,13 @@ def pointers():
         yield from (f"{'/a' * many}~1", f"{'/~0' * many}")
 
 
+TOKENS = (["/", "/a", "/~0", "/~1", "/~01", "/~10", "/~0~1", "/0", "/00", "/-", "/ ", "/\u00e9", "/#", "/%", "/\"",
+           "/\\", "/\u0000", "/a\n", "/\U0010ffff", "/*", "/+1", "/a.b"],
+          ["/~", "/~2", "/~a", "/a~", "/~~", "/~ ", "a"])
+NUMBERS = (["0", "1", "9", "10", "100", "99999999999999999999"],
+           ["", "00", "01", "-1", "+1", "1.0", "1e0", " 1", "\u0661"])
+
+
 def pointer_rows():
     """The rows of JSON pointers and of relative ones."""
     yield "JSON pointers (RFC 6901, section 3) and relative ones"
@@ -1126,6 +1614,19 @@ def pointer_rows():
     yield counts("relative-json-pointer", "/a", 0, 500, 501, [["0", ""], ["12", "/"]])
     yield texts("json-pointer", ["/18446744073709551616", "/00000000000000000000", "/a/99999999999999999999/b", "/-0"],
                 whole(f"(?s:{POINTER})"))
+    yield "each sign and each token some times over"
+    signs = ["/", "~0", "~1", "~01", "~", "/~0", "/~1a", "//", "/a/", "#", "0", "-", "\u00e9", "%2F", "\"", "\\", " ",
+             "\u0000"]
+    places = [["", ""], ["/", ""], ["/a", "/b"], ["/~1", "~0"], ["/0/", "#"]]
+    yield repeated("json-pointer", signs, places, whole(f"(?s:{POINTER})"))
+    places = [[f"12{before}", behind] for before, behind in places] + [["1", "/a"]]
+    yield repeated("relative-json-pointer", signs, places, whole(rf"(?s:(?:0|[1-9][0-9]*)(?:#|{POINTER}))"))
+    yield "each token beside each, in pointers of three, and behind each number"
+    of_three = by_pairs([(["", *TOKENS[0]], TOKENS[1]), TOKENS, TOKENS], 1)
+    yield texts("json-pointer", of_three, whole(f"(?s:{POINTER})"))
+    relative = by_pairs([NUMBERS, (["", *TOKENS[0]], ["#/", "+1", "-1"]), (["", *TOKENS[0]], TOKENS[1])], 1)
+    relative += in_forms(("{}#", "{}", "{}##", "{}#/a", "{}/a#", "{}+1#", "{}-0"), NUMBERS[0] + NUMBERS[1])
+    yield texts("relative-json-pointer", relative, whole(rf"(?s:(?:0|[1-9][0-9]*)(?:#|{POINTER}))"))
     yield "a rule of a token holds in each of three"
     tokens = ["", "a", "~0", "~1", "~", "~2", "~a", "a~", "~~", "~0~1", "~01", "0", "00", "01", "-", "%", "%2F", "#",
               '"', "\\", " ", "\t", "\u007f", "\u0080", "\u00e9", "?", "~/", "~0a~", "~10"]
@@ -1250,8 +1751,80 @@ def names_near(right):
             yield from (name[:at] + changed + name[at + 1:] for changed in changes)
 
 
+# What stands before `+json` in other media types whose texts are JSON. JSON's own is `application/json` (RFC 8259,
+# section 11).
+TYPES_OF_JSON = (
+    "activity", "alto-directory", "calendar", "coap-group", "csvm", "dicom", "dns", "fhir", "geo", "hal", "jf2feed",
+    "jrd", "jscalendar", "json-patch", "jwk", "jwk-set", "ld", "manifest", "merge-patch", "mud", "problem", "rdap",
+    "reports", "sarif", "schema", "schema-instance", "scim", "senml", "td", "vcon", "vnd.api", "yang-data")
+
+
+# Other media types, none of which says that a text is JSON, and what other programs call encodings.
+OTHER_TYPES = [
+    "text/xml", "text/html", "text/csv", "application/yaml", "application/cbor", "application/octet-stream",
+    "image/png", "JSON", "json", "+json", "application/+json", "application/json+xml", "text/plain+json",
+    "model/gltf+json", "image/svg+json", "application/x-www-form-urlencoded", "multipart/form-data",
+    "application/jose+json", "application/bson", "application/msgpack", "application/toml", "application/x-yaml",
+    "text/yaml", "text/json", "application/soap+json", "message/json", "audio/json", "application/json-seq",
+    "application/x-json", "application/x-javascript", "application/jsonml+json", "application/vnd.json",
+    "application/prs.json", "application.json", "application\\json", "application:json", "application json",
+    "application/ json", "application /json", "\"application/json\"", "<application/json>",
+    "application/json, text/json", "application/json;", "application/json;q=1", "application/json;version=1",
+    "application/json (JSON)"]
+OTHER_ENCODINGS = [
+    "x-base64", "uu", "uuencode", "percent", "url", "compress", "base64pad", "base64nopad", "base64-nopad",
+    "base32-hex", "base32crockford", "base16lower", "base58", "base85", "7bit", "8bit", "binary", "quoted-printable",
+    "identity", "gzip", "deflate", "hex", "base 64", "base64;", "base64,base64", "base64, base32", "[\"base64\"]",
+    "base64\n", "\tbase64", "base64\u0000", "\ufeffbase64", "base6\uff14", "base64 url", "base64_url", "urlsafe-base64",
+    "mime", "none", "null"]
+
+
+def names_in_other_cases():
+    """The names of encodings in each choice of letter cases."""
+    for name in ENCODING_NAMES:
+        for cased in itertools.product(*[dict.fromkeys((letter, letter.upper())) for letter in name]):
+            yield "".join(cased)
+
+
+def types_beside_json():
+    """The media type with its parts in other letter cases, with parameters, and other types of texts that are JSON."""
+    for front, back in itertools.product(("application", "Application", "APPLICATION", "text", "Text", "*"),
+                                         ("json", "Json", "JSON", "*", "json5", "jsonc", "schema+json")):
+        yield from (f"{front}/{back}", f"{front}/{back};charset=utf-8", f"{front}/{back}; charset=\"UTF-8\"")
+    yield from ("application/json"[:at].upper() + "application/json"[at:] for at in range(17))
+    yield from ("application/json"[:at] + "application/json"[at:].upper() for at in range(17))
+    for other in TYPES_OF_JSON:
+        yield from (f"application/{other}+json", f"application/{other}", f"application/{other}+JSON", f"{other}+json")
+    yield from (f"application/json{sign}" for sign in ASCII)
+    yield from (f"{sign}application/json" for sign in ASCII)
+
+
+WORDS_OF_CODES = {"base64": [("{}", "AQg=-", range(6)), ("AAAA{}", "AQ=+", (4,)), ("{}AAAA", "A/= ", (4,))],
+                  "base64url": [("{}", "AQg=+", range(6)), ("AAAA{}", "AQ=-", (4,)), ("{}AAAA", "A_= ", (4,))],
+                  "base32": [("AAAA{}", "AQ=8Y", (4,)), ("AA{}", "AE=", (6,)), ("{}AAAAAA", "A=1a", (2,))],
+                  "base32hex": [("0000{}", "0G=WO", (4,)), ("00{}", "04=", (6,)), ("{}000000", "0=av", (2,))],
+                  "base16": [("{}", "0aF=g", range(6)), ("0{}", "9AfG", (1, 2, 3))]}
+
+
+ENDS_OF_CODES = {"base64": ("AA{}", "{}AA"), "base64url": ("AA{}", "{}AA"), "base32": ("AAAAAA{}",),
+                 "base32hex": ("000000{}",), "base16": ("00{}",)}
+
+
 def coding_rows():
     """The rows of encodings."""
+    yield "words of letters, signs and padding, and each two signs, before a block and behind the letters of one"
+    for of, forms in WORDS_OF_CODES.items():
+        made_words = [form.format(word) for form, letters, sizes in forms for word in words(letters, sizes)]
+        made_words += in_forms(ENDS_OF_CODES[of], words(SIGNS, (2,)))
+        rows = [[text, by_trial(of, text)] for text in dict.fromkeys(made_words)]
+        for at in range(0, len(rows), 1500):
+            yield decoded(of, rows[at:at + 1500])
+    yield from short_rows({of: lambda text, of=of: by_trial(of, text) is not None for of in ENCODERS})
+    yield "names in each choice of letter cases, and other names of what is JSON: names are compared exactly"
+    yield names("encodings", [[name, ENCODING_NAMES.get(name)] for name in names_in_other_cases()])
+    yield names("media types", [[name, MEDIA_TYPE_NAMES.get(name)] for name in dict.fromkeys(types_beside_json())])
+    yield names("encodings", [[name, ENCODING_NAMES.get(name)] for name in OTHER_ENCODINGS])
+    yield names("media types", [[name, MEDIA_TYPE_NAMES.get(name)] for name in OTHER_TYPES])
     yield "names with one letter in the other case, left out, doubled or changed"
     for of, right in (("encodings", ENCODING_NAMES), ("media types", MEDIA_TYPE_NAMES)):
         yield names(of, [[name, right.get(name)] for name in dict.fromkeys(names_near(right))])
@@ -1344,6 +1917,38 @@ def literal_rows():
     yield matches("^(get|Put|a b)$", ["get", "Put", "a b"], others)
 
 
+def short_patterns():
+    """Words of the signs that literal patterns are made of, whole and behind what begins one."""
+    yield from ["", *words("^$()|\\aS*/ ", (1, 2, 3))]
+    yield from ("^" + word for word in words("$()|\\aS*", (3, 4)))
+    yield from ("^(" + word for word in words("|)$\\a(", (1, 2, 3, 4, 5)))
+    yield from ("^" + word + "$" for word in words("\\S*sd.a", (2, 3)))
+
+
+def matched_rows():
+    """Literal patterns of few letters, and which words of these letters each matches."""
+    yield "exact texts, prefixes and alternations of one to three: which words they match"
+    some = words("ab-", range(4))
+    some += ["A", "aB", "Ab", "a\n", "\na", "ab\n", "a|b", "(a|b)", "^a", "a$", "\\a", "\u00e9", "a\u00e9"]
+    literals = ["a", "b", "ab", "ba", "aa", "a-"]
+    for literal in literals:
+        yield matches(f"^{literal}$", [literal], [word for word in some if word != literal])
+        yield matches(f"^{literal}", *[[word for word in some if word.startswith(literal) == is_right]
+                                       for is_right in (True, False)])
+    for size in (1, 2, 3):
+        for at, chosen in enumerate(itertools.permutations(literals, size)):
+            if size < 3 or at % 5 == 0:
+                yield matches(f"^({'|'.join(chosen)})$", list(chosen), [word for word in some if word not in chosen])
+
+
+def short_pattern_rows():
+    """What short patterns are analyzed as."""
+    yield "short patterns: each word of the signs of which literal ones are made"
+    others = {"^\\S*$": "no whitespace"}
+    patterns = list(dict.fromkeys(short_patterns()))
+    yield analyses([[pattern, others.get(pattern) or analysis(pattern)] for pattern in patterns])
+
+
 def pattern_rows():
     """The rows of literal patterns."""
     yield "literal patterns with line feeds, with both letter cases, and with a byte order mark"
@@ -1364,6 +1969,8 @@ def pattern_rows():
                       ["^(" + "|".join(chosen) + "|)$", "none"]]
     yield analyses(long_ones)
     yield from literal_rows()
+    yield from short_pattern_rows()
+    yield from matched_rows()
     yield "`^\\S*$` with a member of white space, or a character beside one, at each place of a block"
     for length in (0, 1, 31, 32, 33, 64):
         places = [at for at in sorted({0, 1, length // 2, length - 1, length}) if 0 <= at <= length]
@@ -1497,8 +2104,23 @@ def digit_rows():
     yield texts("label", labels, lambda text: not (has_one(text) and has_other(text)))
 
 
+WORDS_OF_WIDE_NAMES = [("{}", "\u00fc-.1a", (3, 4, 5)), ("{}", "\u05d0.1a", (3, 4, 5)),
+                       ("{}", "\u0628.\u06601-", (3, 4)), ("{}\u00fc", "a\u3002\uff0e\uff61.-", (1, 2, 3)),
+                       ("{}tda", "xXnN-", (4,)), ("xn--{}", "tdaTDA", (3,))]
+WORDS_OF_LABELS = [("{}", "\u00fca-1", (3, 4, 5)), ("{}", "\u05d0\u05b01-", (3, 4, 5)),
+                   ("{}", "\u0628\u064b\u200c\u0660", (4, 5)), ("{}", "\u0915\u094d\u200d\u200c", (4, 5)),
+                   ("{}", "l\u00b7L", (4, 5, 6)), ("{}", "\u30fba\u3042\u4e00", (4, 5)),
+                   ("{}", "\u0375\u03b1a\u0301", (4,))]
+
+
 def label_rows():
     """The rows of Punycode, labels and host names, and of internationalised ones."""
+    kinds = ("a1-.A_ \u00fc\u0301\u00b7\u0375\u05d0\u05f3\u0628\u0660\u06f0\u094d\u200c\u200d\u30fb\u3042\u4e00\u3002"
+             "\uff0e\uff61")
+    yield from word_rows([(IDN, is_idn_host_name, WORDS_OF_WIDE_NAMES), ("u-label", is_u_label, WORDS_OF_LABELS),
+                          ("label", is_hostname_form, WORDS_OF_LABELS)])
+    yield from short_rows({"hostname": is_name_of_plain_labels, IDN: is_idn_host_name, "u-label": is_u_label,
+                           "label": is_hostname_form}, kinds)
     yield "`xn--` labels at each place of a host name, right and wrong, among others"
     names = {".".join(labels): all(map(is_right_label, labels)) for labels in names_of_labels()}
     yield texts("hostname", names, names.get)
@@ -1557,6 +2179,7 @@ def points_of(ranges):
 
 ADDED_POINTS = set().union(*map(points_of, ADDED.values()))
 ADDED_MARK_POINTS = points_of(ADDED_MARKS)
+ADDED_STARTS = ADDED_POINTS - ADDED_MARK_POINTS
 # Exceptions and contextual rules of RFC 5892 that no letter on both sides fulfils.
 NOT_BETWEEN_LETTERS = (0x640, 0x7FA, 0x302E, 0x302F, 0x303B, 0x30FB, 0xB7, 0x375, 0x5F3, 0x5F4, 0x200C, 0x200D,
                        *range(0x3031, 0x3036))
@@ -2181,6 +2804,153 @@ def u_label_rows():
     yield texts("u-label", labels_about_63() + ["\u4e00" * count for count in range(1, 70)], is_u_label)
 
 
+# Labels that may stand in names, of both directions and of each kind, and labels that may not.
+IN_NAMES = ["a", "A-1", "1", "1a", "b--c", "z" * 30, "\u00fc", "b\u00fc-1", "1\u00fc", "\u4e00", "\u05d0", "\u05d01",
+            "\u0628\u0660", "l\u00b7l", "\u03b1\u0375\u03b2", "\u05d0\u05f3", "\u30fb\u30a2", "\u0915\u094d\u200d",
+            "\u0628\u200c\u0628", "\u06f0", "\u0660", "\u00df", "\u03c2", "\U00020000", "xn--tda", "XN--TDA", "xn--4db",
+            "Xn--4Db", "xn--ll-0ea"]
+IN_NO_NAMES = ["", "-a", "a-", "a_b", "ab--c", "xn--a", "xn--", "\u00dc", "u\u0308", "\u0300a", "-\u00fc", "\u00fc-",
+               "aa--\u00fc", "l\u00b7", "\u0375", "\u05f3", "\u30fb", "\u200d", "\u0660\u06f0", "\u0640", "\uff41",
+               "\U0001f600", "a" * 64, "xn--l-fda", "\u05d0a"]
+
+
+def pairs_of_labels():
+    """Names of each label beside each other one, with each of the four dots between them, and of three."""
+    turns = itertools.cycle(DOTS)
+    beside = [*itertools.product(IN_NAMES, repeat=2), *itertools.product(IN_NAMES, IN_NO_NAMES),
+              *itertools.product(IN_NO_NAMES, IN_NAMES)]
+    yield from (f"{one}{next(turns)}{other}" for one, other in beside)
+    yield from (f"{one}{next(turns)}a{next(turns)}{other}" for one, other in beside[::3])
+    yield from (f"\u05d0{next(turns)}{one}{next(turns)}{other}" for one, other in beside[1::3])
+
+
+# A character of each kind that the rules of a label tell apart: letters, marks, digits, hyphens and those with a rule.
+OF_KINDS = ("al-1\u00fc\u0301\u00b7\u0375\u03b1\u05d0\u05b0\u05f3\u0628\u064b\u0660\u06f0\u0915\u094d\u200c\u200d\u30fb"
+            "\u30a2\u3007")
+NAMES_OF_XN_LABELS = ("xn--tda", "xn--4db", "xn--ll-0ea")
+
+
+def is_name_of_known_labels(name):
+    """Whether the labels of a name are plain ones, or XN-labels that are known to be right."""
+    return all(whole(LABEL)(label) and (label[2:4] != "--" or label.lower() in NAMES_OF_XN_LABELS)
+               for label in name.split("."))
+
+
+# What the rules of a label ask for, alone, and between what stands before it and behind it.
+REPEATED_PARTS = ["l\u00b7", "l\u00b7l", "\u0375\u03b1", "\u05d0\u05f4", "\u05f3", "\u05d0\u05f3\u05d1", "\u30fb",
+                  "\u0915\u094d\u200d", "\u0915\u094d\u200c", "\u06f0", "\u05b0", "\u00fc", "\u3007", "\u00df",
+                  "\u0640"]
+REPEATED_PLACES = [("l", "\u00b7l", ""), ("l", "\u00b7", "l"), ("", "\u0375", "\u03b1"), ("\u03b1", "\u0375", ""),
+                   ("\u05d0", "\u05f3", ""), ("", "\u30fb", "\u30a2"), ("\u30a2", "\u30fb", ""),
+                   ("\u30fb", "a", "\u3042"), ("\u4e00", "a", "\u30fb"), ("\u0915", "\u094d", "\u200d"),
+                   ("\u0915\u094d", "\u200d", "\u0937"), ("\u0915\u094d", "\u0951", "\u200d"), ("\u0628", "\u0660", ""),
+                   ("\u0628\u0660", "\u0628", "\u06f0"), ("\u05d0", "0", ""), ("\u05d00", "\u05d1", "\u0660"),
+                   ("\u05d0", "-", "\u05d1"), ("\u05d0", "\u05b0", ""), ("\u05d0-", "\u05b0", ""),
+                   ("\u05d00", "\u05b0", ""), ("q", "\u0301", ""), ("\u4e000", "\u05b0", ""), ("\u4e00-", "\u05b0", ""),
+                   ("\u00fc", "-", "a"), ("a\u00fc", "-", "a"), ("", "-", "\u00fc"), ("\u00fc", "a", "--b")]
+
+
+def repeated_forms():
+    """Labels in which what a rule asks for stands some times over, and at some distance."""
+    for number in range(1, 9):
+        for one, other in itertools.product("\u064b\u0300\u05b0\u0951", repeat=2):
+            row = ((one + other) * number)[:number]
+            yield from (f"\u0628{row}\u200c\u0627", f"\u0628\u200c{row}\u0627")
+        for left, right in itertools.product("\u0628\u0627a\u1820", "\u0628\u0627a\u18a9"):
+            yield "".join((left, "\u064b" * number, "\u200c", "\u064b" * (9 - number), right))
+            yield from (f"{left}\u200c{right}" * number, f"{left}\u200c" * number + right)
+        for part in REPEATED_PARTS:
+            yield part * number
+        for before, part, behind in REPEATED_PLACES:
+            yield before + part * number + behind
+
+
+# What a label by itself may have as often as one likes: the 63 octets are those of its A-label (RFC 5890, section
+# 2.3.2.1).
+LONG_PARTS = ["a", "-", ".", "\u00fc", "\u4e00", "\u05d0", "\U00020000", "l\u00b7l", "\u30fb\u30a2",
+              "\u0915\u094d\u200d", "a\u0301"]
+LONG_SIZES = (9, 16, 31, 32, 33, 59, 60, 63, 64, 65, 127, 128, 255, 256, 1000)
+
+
+def hyphened_forms():
+    """Labels with hyphens at each place of six, and middle dots between letters of either case."""
+    for letters in ("\u00fcabcde", "ab\u00fcde", "\u4e00\u4e01\u4e02\u4e03", "\u05d0\u05d1\u05d2\u05d3\u05d4"):
+        for chosen in itertools.product((False, True), repeat=min(len(letters), 5)):
+            yield "".join("-" if is_hyphen else letter for letter, is_hyphen in zip(letters, chosen)) + letters[5:]
+    yield from (f"{one}\u00b7{other}" for one in "lLa\u0142\u013a" for other in "lLa\u0142\u013a")
+
+
+# What stands well by a rule of its own, what has no rule, and what keeps no rule.
+RULED = ["l\u00b7l", "\u0375\u03b1", "\u05d0\u05f3", "\u05d0\u05f4", "\u30fb\u30a2", "\u4e00", "\u0915\u094d\u200d",
+         "\u0915\u094d\u200c\u0937", "\u0628\u200c\u0628", "\u0628\u064b\u200c\u064b\u0627", "\u0660", "\u06f0", "1",
+         "a", "-", "\u00df", "\u05b0", "\u0301"]
+UNRULED = ["\u00b7", "\u05f3", "\u200c", "\u200d", "\u0375", "\u30fb", "\u0640", "\u00dc"]
+
+
+def rows_of_rules():
+    """Labels of two and of three such parts: no rule is against another, and none lets another off."""
+    yield "parts that keep a rule of a label, and parts that do not, two and three in a row"
+    rights, beside = words(RULED, (2, 3)), itertools.product(RULED, UNRULED, RULED[::3])
+    forms = [*words(RULED, (2,)), *rights[324::5], *["".join(parts) for parts in beside]]
+    for of, is_right in (("u-label", is_u_label), ("label", is_hostname_form), (IDN, is_idn_host_name)):
+        yield texts(of, forms, is_right)
+    wide_ones = [form for form in forms if not form.isascii()]
+    encoded_forms = {to_a_label(form): form for form in wide_ones[::2]}
+    yield texts("hostname", encoded_forms,
+                lambda label: bool(whole(LABEL)(label)) and is_hostname_form(encoded_forms[label]))
+    yield idn_texts([label if at % 2 else label.upper() for at, label in enumerate(map(to_a_label, wide_ones[1::2]))])
+    addresses = [f"a@{'b.' * (at % 3)}{form}" for at, form in enumerate(wide_ones[::2])]
+    yield texts("idn-email", addresses, is_domain_of_labels)
+
+
+def repeated_form_rows():
+    """The same forms in each of the formats that have such labels."""
+    yield "names of labels that run from right to left, some times over, and names in capitals"
+    labels = ["\u05d0.", "\u05d0\u3002", "\u0628\u0660.", "\u05d01.", "1.", "a.", "xn--4db.", "XN--4DB.", "\u00fc.",
+              "A.", "BC\uff0e"]
+    places = [["", "\u05d0"], ["\u05d0.", "\u05d1"], ["a.", "\u05d0"], ["", "b"], ["", "DE"]]
+    yield repeated(IDN, labels, places, is_idn_host_name)
+    yield repeated("idn-email", labels, [["a@", "\u05d0"], ["a@\u05d0.", "\u05d1"], ["a@", "b"]], is_any_mailbox)
+    yield repeated("hostname", ["A.", "BC.", "D-E.", "0.", "XN--TDA.", "xn--ll-0ea."], [["", "F"], ["GH.", "i"]],
+                   lambda text: bool(whole(NAME)(text)))
+    yield "what a rule of a label asks for, some times over and at some distance, and hyphens at each place"
+    forms = list(dict.fromkeys([*repeated_forms(), *hyphened_forms()]))
+    long_ones = [before + part * size for before in ("", "a", "\u05d0", "\u0301") for part in LONG_PARTS
+                 for size in LONG_SIZES]
+    yield texts("label", long_ones, is_hostname_form)
+    yield idn_texts([*forms, *[f"a.{form}" for form in forms[::2]], *[f"\u05d0.{form}" for form in forms[1::2]]])
+    yield texts("u-label", forms, is_u_label)
+    yield texts("label", forms, is_hostname_form)
+    encoded_forms = {to_a_label(form): form for form in forms if not form.isascii()}
+    yield texts("hostname", encoded_forms,
+                lambda label: bool(whole(LABEL)(label)) and is_hostname_form(encoded_forms[label]))
+    yield idn_texts([label if at % 2 else label.upper() for at, label in enumerate(encoded_forms)])
+    wide_ones = [form for form in forms if not form.isascii()]
+    yield texts("idn-email", [*[f"a@{form}" for form in wide_ones], *[f"a@b.{form}" for form in wide_ones[::3]]],
+                is_domain_of_labels)
+
+
+def rows_of_kinds():
+    """Labels of characters of each kind, and names of labels of each kind."""
+    yield "characters of each kind, each beside each, and more in a row: each rule of a label beside each other one"
+    of_two, of_three = words(OF_KINDS, (1, 2)), words(OF_KINDS, (3,))
+    of_four = [f"{pair}{OF_KINDS[at % 23]}{OF_KINDS[(at * 7 + at // 23) % 23]}"
+               for at, pair in enumerate(words(OF_KINDS, (2,)))]
+    for step, (of, rule) in enumerate((("label", is_hostname_form), (IDN, is_idn_host_name), ("u-label", is_u_label))):
+        yield texts(of, of_two + of_three[step::3] + of_four, rule)
+    forms = [form for form in [*of_two, *of_three[::6], *of_four] if not form.isascii()]
+    encoded_forms = {to_a_label(form): form for form in forms}
+    yield texts("hostname", encoded_forms,
+                lambda label: bool(whole(LABEL)(label)) and is_hostname_form(encoded_forms[label]))
+    yield idn_texts([label if at % 2 else label.upper() for at, label in enumerate(encoded_forms)])
+    yield "labels of each kind beside each other, with each of the four dots"
+    yield idn_texts(pairs_of_labels())
+    pairs = itertools.product([*IN_NAMES, *IN_NO_NAMES], repeat=2)
+    yield texts("idn-email", [f"a@{one}.{other}" for at, (one, other) in enumerate(pairs) if at % 2], is_any_mailbox)
+    of_ascii = [label for label in IN_NAMES + IN_NO_NAMES if label.isascii()]
+    yield texts("hostname", [".".join(pair) for pair in itertools.product(of_ascii, repeat=2)], is_name_of_known_labels)
+
+
 def placed_label_rows():
     """Labels of each kind at each place of a name."""
     yield "a rule of a label holds at each place of a name: the first, the second, the third and the last"
@@ -2198,7 +2968,8 @@ def idn_rows():
     """The rows of internationalised host names."""
     yield "internationalised host names: RFC 5890 to 5893"
     yield from rows_of(permission_rows, normal_form_rows, label_rules_of_idn, context_rows_of_idn, bidi_rows_of_idn,
-                       a_label_rows, size_rows, u_label_rows, hostname_form_rows, mail_label_rows, placed_label_rows)
+                       a_label_rows, size_rows, u_label_rows, hostname_form_rows, mail_label_rows, placed_label_rows,
+                       repeated_form_rows, rows_of_kinds, rows_of_rules)
     yield ("all code points, by the derived property of another edition of Unicode: between two letters of either "
            "direction; of the first 131,072 first, last and beside the characters that have contextual rules")
     yield from (idn_sums(before, behind) for before, behind in WIDE_PLACES)
@@ -2600,20 +3371,21 @@ def code_rows():
 
 
 # What Python does not take in its own names, whose classes are XID_Start and XID_Continue, closed under compatibility.
-OTHER_STARTS = "\u037a\u0e33\u0eb3\u309b\u309c"
+OTHER_STARTS = (
+    "\u037a\u0e33\u0eb3\u309b\u309c\ufc5e\ufc5f\ufc60\ufc61\ufc62\ufc63\ufdfa\ufdfb\ufe70\ufe72\ufe74\ufe76\ufe78"
+    "\ufe7a\ufe7c\ufe7e\uff9e\uff9f")
 
 
 def is_name_start(point):
     """Whether a name of a group may begin by the character."""
-    is_added = point in ADDED_POINTS - ADDED_MARK_POINTS
-    return chr(point) in "$_" + OTHER_STARTS or chr(point).isidentifier() or is_added
+    return chr(point) in "$_" + OTHER_STARTS or chr(point).isidentifier() or point in ADDED_STARTS
 
 
 def is_name_part(point):
     """Whether the character may stand in a name behind another one."""
     if is_name_start(point) or point in ADDED_POINTS:
         return True
-    return chr(point) in "\u200c\u200d\u30fb" or ("a" + chr(point)).isidentifier()
+    return chr(point) in "\u200c\u200d\u30fb\uff65" or ("a" + chr(point)).isidentifier()
 
 
 def escaped(character):
@@ -4884,6 +5656,1059 @@ def inner_loop_rows():
     yield searches(rows)
 
 
+# Assertions, and what reads one character, which stand behind one another in a look-around.
+EDGE_PIECES = ["", "^", "$", "\\b", "\\B", "a", "-", "."]
+EDGE_ASSERTIONS = ["^", "$", "\\b", "\\B"]
+
+
+def inner_edge_rows():
+    """Assertions behind something in what a look-around looks for."""
+    yield ("assertions behind one another, and behind what reads, in what a look-around looks for: each asks for its "
+           "place in the whole text (22.2.2.4)")
+    bodies = [one + other for one, other in itertools.product(EDGE_PIECES, repeat=2)]
+    bodies += ["".join(each) for each in itertools.product(EDGE_ASSERTIONS, repeat=3)]
+    bodies += [f"{one}|{other}" for one, other in itertools.product(EDGE_PIECES[1:], repeat=2)]
+    looks = ("(?={})", "(?!{})", "(?<={})", "(?<!{})")
+    forms = [*looks, *(f"^(?:[^]{look})+$" for look in looks), *(f"^(?:{look}[^])+$" for look in looks)]
+    rows = []
+    for form, body in itertools.product(forms, dict.fromkeys(bodies)):
+        for word in ("", "a", "-", "a-", "-a", "aa"):
+            holds = [stands_behind if "(?<" in form else stands_ahead][0]
+            stands = [holds(f"(?:{body})", word, place) == ("!" not in form) for place in range(len(word) + 1)]
+            is_found = any(stands)
+            if form[0] == "^":
+                is_found = word != "" and all(stands[1:] if form.startswith("^(?:[^](") else stands[:-1])
+            rows.append([form.format(body), word, is_found])
+    yield searches(rows)
+
+
+# What stands before a text and behind it, where a pattern is written between signs, in quotation marks or as a line.
+AROUND_PATTERNS = (
+    ("/", "/"), ("m/", "/"), ("s/", "/b/"), ("qr/", "/"), ("r\"", "\""), ("r'", "'"), ("@\"", "\""), ("<", ">"),
+    ("\u00ab", "\u00bb"), ("\u2018", "\u2019"), ("\u201c", "\u201d"), ("`", "`"), ("\"", "\","), ("#", "#i"),
+    ("//", ""), ("//", "//"), ("/ ", " /"), ("", ";"), ("", "\n"), ("", "\r\n"), ("", "\n\n"), ("\n", "\n"), ("", "\0"),
+    ("", "\u001a"), ("\ufeff", ""), ("\ufeff", "\ufeff"), ("u/", "/"), ("&", ";"), ("%", "%"), ("=", ""), ("!", ""),
+    ("~", ""), ("regex:", ""), ("re:", ""), ("#", ""), ("-- ", ""), ("\u2028", "\u2028"))
+
+
+def wrapped_rows():
+    """Patterns between signs that other notations write around one."""
+    yield ("the whole text is the pattern: solidi, letters behind them, quotation marks, blanks, ends of lines and "
+           "comment signs around it stand for themselves")
+    signs = [sign for sign in ASCII if sign not in SYNTAX or sign == "/"]
+    wraps = [*AROUND_PATTERNS, *(pair for sign in signs for pair in ((sign, sign), ("", sign), (sign, "")))]
+    wraps += [("/", f"/{flag}") for flag in (*LETTERS, "gi", "im", "gimsuy", "u8")]
+    wraps = list(dict.fromkeys(wraps))
+    rows = []
+    for before, behind in wraps:
+        whole = f"{before}a{behind}"
+        rows += [[whole, text, whole in text] for text in ("a", whole, whole[1:], whole[:-1], f"b{whole}b")]
+        rows += [[f"{before}^{behind}", "", whole == "a"], [f"^{before}a{behind}$", whole, True],
+                 [f"^{before}a{behind}$", "a", False], [f"{before}\\n{behind}", f"{before}\n{behind}", True],
+                 [f"{before}\\n{behind}", "\n", (before, behind) == ("", "")]]
+    yield searches(rows)
+    yield "a quantifier behind such a sign first in the pattern is one of the sign, and a group does not reach over it"
+    right = [f"{before}{sign}a{behind}" for before, behind in wraps if before for sign in ("*", "+?", "{2}")]
+    right += [f"{before}(a){behind}{quantifier}" for before, behind in wraps if behind for quantifier in ("?", "{1,}")]
+    wrong = [form.format(*wrap) for wrap in wraps for form in ("{}({}", "{}){}", "({}a{}", "{}**{}", "{}[{}", "{}({}?)")
+             if form != "{}({}?)" or wrap[1] == ""]
+    for of in (PATTERNS, WHOLE_PATTERNS):
+        yield texts(of, right, lambda text: True)
+        yield texts(of, wrong, never)
+    yield refusals("it has a back reference", [f"{before}\\1{behind}" for before, behind in wraps])
+
+
+# What opens a group, the last four look-arounds.
+OPENINGS = ("(", "(?:", "(?=", "(?!", "(?<=", "(?<!")
+MOST_DEEP = 250
+TOO_DEEP = f"its groups are more than {MOST_DEEP} deep"
+
+
+def deep_parts(opened, inner="a"):
+    """Groups and look-arounds in one another, as parts of a text: openings, each so many times, and as many ends."""
+    number = sum(one.count("(") * times for one, times in opened)
+    return [*([one, times] for one, times in opened if times), [inner, 1], [")", number]]
+
+
+def mixed_depths(deep):
+    """Openings of several kinds of so many groups in one another, by turns and one kind in another."""
+    for one, other in itertools.product(OPENINGS, repeat=2):
+        yield [(one + other, deep // 2), (one, deep % 2)]
+    for one, other in itertools.permutations(OPENINGS, 2):
+        yield from ([(one, outer), (other, deep - outer)] for outer in (1, MOST_DEEP // 2, MOST_DEEP - 1, deep - 1))
+    for three in itertools.combinations(OPENINGS, 3):
+        yield [("".join(three), deep // 3), (three[0], deep % 3)]
+    yield [("".join(OPENINGS), deep // len(OPENINGS)), (OPENINGS[-1], deep % len(OPENINGS))]
+
+
+def named_depths(deep):
+    """The same with a group that has a name first, in the middle and last."""
+    for place, kind in itertools.product((0, MOST_DEEP // 2, deep - 1), OPENINGS):
+        yield [(kind, place), ("(?<n>", 1), (kind, deep - 1 - place)]
+
+
+def long_refusals(of, patterns):
+    """Patterns of parts, each with how many times it stands, not taken for the same reason, or all taken."""
+    patterns = [{"pattern": pattern} for pattern in patterns]
+    return {"ask": "refusals", "of": of, "long": patterns}, len(patterns)
+
+
+def mixed_depth_rows():
+    """Groups and look-arounds of several kinds in one another, at the most and one more."""
+    yield ("groups and look-arounds of several kinds in one another, by turns and one kind in another: each counts for "
+           "the depth, at the most and one more")
+    for deep, of in ((MOST_DEEP, "taken"), (MOST_DEEP + 1, TOO_DEEP)):
+        opened = [*mixed_depths(deep), *named_depths(deep)]
+        yield long_refusals(of, [deep_parts(one) for one in opened])
+    yield "a group that is closed counts no more, of whatever kind it is, and one that is open counts"
+    shallow = [[(kind, MOST_DEEP - 1)] for kind in OPENINGS]
+    closed = ("(a)", "(?:a)", "(?<n>a)", "(?=a)", "(?!a)", "(?<=a)", "(?<!a)")
+    beside = [f"{one}{other}" for one in closed for other in ("", "(b)", "(?=b)", "(?<=b)")]
+    yield long_refusals("taken", [deep_parts(opened, one) for opened in shallow for one in beside])
+    deeper = ("((a))", "(?:(a))", "(?<m>(?=a))", "(?=(?<!a))", "(?!(?:a))", "(?<=(?=a))", "(?<!(?!a))")
+    beside = [f"{one}{other}" for one in ("", *closed) for other in deeper]
+    yield long_refusals(TOO_DEEP, [deep_parts(opened, one) for opened in shallow for one in beside])
+    yield "the whole grammar: groups and look-arounds of several kinds in one another, with as many ends or others"
+    deeper = [deep_parts(opened) for deep in (MOST_DEEP + 1, 1001) for opened in mixed_depths(deep)]
+    spoilt = [[*parts[:-1], [")", parts[-1][1] + more]] for parts in deeper for more in (-1, 1)]
+    yield {"ask": "long texts", "of": WHOLE_PATTERNS, "yes": deeper, "no": spoilt}, 3 * len(deeper)
+
+
+def closed_kind_rows():
+    """A quantifier behind what each kind of group ends, within each kind and around it."""
+    yield ("a quantifier behind the end of each of three groups or look-arounds in one another: it may stand behind a "
+           "group and behind no look-around (22.2.1, Term)")
+    expected = {}
+    kinds_of_three = itertools.product((*OPENINGS, "(?<{}>"), repeat=3)
+    for kinds, place in itertools.product(kinds_of_three, range(3)):
+        opened = "".join(kind.format(name) for kind, name in zip(kinds, "xyz"))
+        for quantifier in ("*", "{2}?"):
+            ends = [")"] * 3
+            ends[place] += quantifier
+            expected[f"{opened}a{''.join(ends)}"] = kinds[2 - place] not in OPENINGS[2:]
+    for of in (PATTERNS, WHOLE_PATTERNS):
+        yield texts(of, expected, expected.get)
+
+
+# Halves of pairs and what stands beside them, as they may be written in a class, each with its code point.
+UNITS_OF_CLASSES = {
+    "\\uD800": 0xD800, "\\uDBFF": 0xDBFF, "\\uDC00": 0xDC00, "\\uDFFF": 0xDFFF, "\\u{D83D}": 0xD83D,
+    "\\u{DE00}": 0xDE00, "\\uFFFF": 0xFFFF, "a": 0x61}
+
+
+def joined_points(units):
+    """The code points of units: a leading one and a trailing one behind it, each by four digits, are one."""
+    points, open_lead = [], None
+    for unit in units:
+        point = UNITS_OF_CLASSES[unit]
+        is_half = "{" not in unit
+        if open_lead is not None and is_half and 0xDC00 <= point <= 0xDFFF:
+            points[-1] = 0x10000 + (open_lead - 0xD800) * 0x400 + point - 0xDC00
+            open_lead = None
+        else:
+            points.append(point)
+            open_lead = point if is_half and 0xD800 <= point <= 0xDBFF else None
+    return points
+
+
+def half_pair_rows():
+    """Halves of pairs one behind another, at both ends of a range."""
+    yield ("the whole grammar: two halves of pairs, or what is none, at both ends of a range: a leading one and a "
+           "trailing one behind it are one character, and no others (22.2.1, RegExpUnicodeEscapeSequence)")
+    expected = {}
+    for one, other in itertools.product(itertools.product(UNITS_OF_CLASSES, repeat=2), repeat=2):
+        is_right = joined_points(one)[-1] <= joined_points(other)[0]
+        expected[f"[{''.join(one)}-{''.join(other)}]"] = is_right
+    yield texts(WHOLE_PATTERNS, expected, expected.get)
+    three = list(itertools.product(UNITS_OF_CLASSES, repeat=3))
+    expected = {f"[{''.join(units)}-\\uE000]": joined_points(units)[-1] <= 0xE000 for units in three}
+    expected |= {f"[\\uE000-{''.join(units)}]": joined_points(units)[0] >= 0xE000 for units in three}
+    yield texts(WHOLE_PATTERNS, expected, expected.get)
+    alone = ["".join(units) for units in three]
+    yield texts(WHOLE_PATTERNS, [*alone, *in_forms(("[{}]", "[^{}-]", "(?:{})*"), alone)], lambda text: True)
+    yield "the same of what is a pair or none, in patterns of which a half is no part"
+    expected = {"".join(units): not any(map(is_surrogate, joined_points(units))) for units in three}
+    yield texts(PATTERNS, expected, expected.get)
+    yield texts(PATTERNS, [f"[{text}]" for text in expected], lambda text: expected[text[1:-1]])
+
+
+# Characters of names, by whether they may be first and whether they may stand behind; and how each may be written.
+CHARACTERS_OF_NAMES = {
+    "a": (True, True), "\u00e9": (True, True), "\u200d": (False, True), "\U00010400": (True, True),
+    "\U0001d49c": (True, True), "\U000e0100": (False, True), "\U0001f600": (False, False)}
+
+
+def halves(character):
+    """The character by four digits, or by those of its pair."""
+    units = character.encode("utf-16-be")
+    return "".join(f"\\u{units[at:at + 2].hex()}" for at in range(0, len(units), 2))
+
+
+def in_braces(character):
+    """The character by its code in braces, with zeros before it."""
+    return f"\\u{{00{ord(character):X}}}"
+
+
+def pair_name_rows():
+    """Names of groups whose characters are written as pairs, in braces or as they are, at each place."""
+    yield ("names of groups by each spelling of each character, first and behind: as it is, by four digits or those of "
+           "its pair, and in braces (22.2.1, RegExpIdentifierName)")
+    written = [(one, spell(one)) for one in CHARACTERS_OF_NAMES for spell in (str, halves, in_braces)]
+    expected, names = {}, []
+    for size in (1, 2, 3):
+        for parts in itertools.product(written, repeat=size):
+            kinds = [CHARACTERS_OF_NAMES[one] for one, _ in parts]
+            is_right = kinds[0][0] and all(may_follow for _, may_follow in kinds)
+            name = "".join(spelled for _, spelled in parts)
+            if size < 3 or {*(one for one, _ in parts)} <= {*"a\U00010400\U000e0100"}:
+                expected[f"(?<{name}>x)"] = is_right
+            if is_right and size < 3:
+                names.append(("".join(one for one, _ in parts), name))
+    for of in (PATTERNS, WHOLE_PATTERNS):
+        yield texts(of, expected, expected.get)
+    yield "the same of names that are called, and of names that stand twice"
+    called = {}
+    for (one, name), (other, _) in itertools.product(names, repeat=2):
+        if one == other or len(one) == len(other) and len({*one, *other}) == 2 and name == one:
+            called[f"(?<{other}>x)\\k<{name}>"] = called[f"\\k<{name}>(?<{other}>x)"] = one == other
+    yield texts(WHOLE_PATTERNS, called, called.get)
+    twice = {f"(?<{name}>x)(?<{spelled}>y)": one != other for (one, name), (other, spelled) in
+             itertools.product(names, repeat=2) if one == other or len(one) + len(other) < 4}
+    for of in (PATTERNS, WHOLE_PATTERNS):
+        yield texts(of, twice, twice.get)
+    yield "halves of pairs in a name, alone, the other way round, and written in two ways"
+    halved = ("\\ud835", "\\udc9c", "\\udc9c\\ud835", "\\ud835\\ud835", "\\udc9c\\udc9c", "\\u{d835}\\u{dc9c}",
+              "\\ud835\\u{dc9c}", "\\u{d835}\\udc9c", "\\ud835a\\udc9c", "\\ud835\\u0061", "\\ud83d\\ude00",
+              "\\udb40\\udfff", "\\ud800\\udc0c")
+    spoilt = in_forms(("(?<{}>x)", "(?<a{}>x)", "(?<{}a>x)", "(?<a\\ud835\\udc9c{}>x)"), halved)
+    for of in (PATTERNS, WHOLE_PATTERNS):
+        yield texts(of, spoilt, never)
+    yield texts(WHOLE_PATTERNS, in_forms(("(?<\U0001d49c>)\\k<{}>", "(?<a\U0001d49c>)\\k<a{}>"), halved), never)
+
+
+# What may stand behind the end of what a pattern looks for; no character of a text is left out of it.
+TEXT_TAILS = [*ASCII, *"\u0080\u0085\u00a0\u2028\u2029\u200b\u200d\u3000\ufeff\uffff\U0001f600\U0010ffff", "\r\n", "\n\n",
+              "\n\r", "\r\r", "\n\u2028", "\0\0", "\u001a\u001a", "\n\0", "\u001a\n", "  ", "\ufe0f", "\u0301"]
+
+
+def text_end_rows():
+    """Characters at the ends of a text."""
+    yield ("`$` holds behind all characters of a text and `^` before them: no end of a line, no blank, no control and "
+           "no byte order mark is left out at an end (22.2.2.4)")
+    rows = []
+    for tail in TEXT_TAILS:
+        rows += [[pattern, f"a{tail}", tail == "a" and "^" not in pattern and "!" not in pattern] for pattern in (
+            "a$", "^a$", "(?<=^a)$", "^a(?![^])", "^(?:a)$", "^a(?=$)", "^a??$", "^(?:a|b)$")]
+        rows += [[pattern, f"{tail}a", tail == "a" and pattern == "^a"] for pattern in (
+            "^a", "^a$", "^(?=a$)", "(?<![^])a$", "^(?:a|b)$", "(?<=^)a$")]
+        rows += [[f"^[^]{{{len(tail)}}}$", tail, True], [f"^[^]{{{len(tail) + 1}}}$", tail, False],
+                 [f"^a[^]{{{len(tail)}}}$", f"a{tail}", True], [f"^[^]{{{len(tail)}}}a$", f"{tail}a", True],
+                 [f"^[^]{{{len(tail) - 1}}}$", tail, False], ["^$", tail, False], ["^(?![^])", tail, False]]
+    yield searches(rows)
+
+
+# Characters that are alike in other eyes: by letter case, width, normal form, shape or use.
+ALIKE = (
+    "aA\u0430\u0410\u0391\u03b1\uff41\uff21\u00aa\u1d43\u0251\U0001d41a", "kK\u212a\u03ba\u043a\uff4b",
+    "sS\u017f\u0455\uff53", "iI\u0131\u0130\u0456\u0399\u03b9\u2170\u2160lL1|\u007c",
+    "oO0\u043e\u041e\u03bf\u039f\u0665\u06f0\uff10", "\u00e9\u00c9e\u0117", "\u00e5\u00c5\u212b",
+    "\u00b5\u03bc\u039c", "\u03c9\u03a9\u2126", "\u03c3\u03c2\u03a3", "\u00df\u1e9e\u03b2",
+    "\u03b8\u03d1\u0398\u03f4", "\u1e61\u1e9b\u1e60", "\u0444\u0424\u03c6\u03d5\u03a6", "\u01c4\u01c5\u01c6",
+    "\u01f1\u01f2\u01f3", "\u10d0\u1c90\u10a0\u2d00", "\u13a0\uab70", "\U00010400\U00010428", "\U0001e900\U0001e922",
+    "\u30ab\u304b\uff76\u32d5", "\u3042\u3041\u30a2\u30a1\uff71",
+    "-\u2010\u2011\u2012\u2013\u2014\u2212\uff0d\u00ad\u30fc\ufe63\u058a_~",
+    "'\u2018\u2019\u02bc\u00b4`\uff07\u2032\u05f3", "\"\u201c\u201d\u00ab\u2033\uff02\u05f4",
+    " \u00a0\t\u2003\u3000\u200b\u202f\u2060\ufeff\u1680\u180e_+", "\n\r\u2028\u2029\u0085\u000b\u000c\u001e",
+    "1\u0661\u06f1\u0967\uff11\u00b9\u2460\u2081\U0001d7cf", "/\u2044\u2215\\\uff0f\u29f8",
+    ".\u3002\uff0e\u2024\u00b7\uff61", ",\uff0c\u3001\u060c\uff64;", ":\uff1a\u2236\ua789;\u037e",
+    "\u4e00\u30fc\u2500\u2f00", "\u8c48\uf900", "\u8f66\u8eca", "\uac00\u1100\u3131", "<\u2039\uff1c\u3008>",
+    "(\uff08\u207d\u2768[{", ")\uff09\u207e]}", "*\uff0a\u2217\u00d7", "+\uff0b\u207a", "?\uff1f\u061f\u00bf",
+    "$\uff04\u00a4\u20ac", "^\uff3e\u02c6", "\0\u0001\ufffd\u2400\u001a", "%\uff05\u066a", "&\uff06", "#\uff03",
+    "@\uff20", "!\uff01\u01c3", "=\uff1d\u2261", "\u0303\u0342\u02dc")
+
+
+def quoted(character):
+    """The character as it may stand in a class or alone."""
+    return f"\\{character}" if character in SYNTAX + "-" else character
+
+
+def alone_in_pattern(character):
+    """The character as it may stand in a pattern outside a class."""
+    return f"\\{character}" if character in SYNTAX else character
+
+
+def mapped_pairs():
+    """Characters, each with another that stands for it in another letter case or normal form."""
+    for point in (*range(0x20000), *range(0x2F800, 0x2FA20)):
+        one = chr(point)
+        if not is_surrogate(point) and point not in ADDED_POINTS:
+            others = [one.lower(), one.upper(), one.title(), one.casefold()]
+            others += [unicodedata.normalize(form, one) for form in ("NFC", "NFKC")]
+            for other in dict.fromkeys(others):
+                if other != one and len(other) == 1 and ord(other) not in ADDED_POINTS:
+                    yield one, other
+
+
+def alike_rows():
+    """Characters that are alike in other eyes are others here."""
+    yield ("a character matches itself alone, and none that is like it by letter case, width, normal form, shape or "
+           "use (22.2.2.7.3, without the flag `i`): each of several that are alike, in each of these")
+    rows = []
+    for alike in ALIKE:
+        for one, other in itertools.product(dict.fromkeys(alike), repeat=2):
+            is_same, single, member = one == other, alone_in_pattern(one), quoted(one)
+            rows += [[f"^{single}$", other, is_same], [f"^[{member}]$", other, is_same],
+                     [f"^[^{member}]$", other, not is_same],
+                     [f"(?<={single})x", f"{other}x", is_same], [f"x(?!{single})", f"x{other}", not is_same],
+                     [f"^[{member}-{member}]$", other, is_same], [f"^{escaped(one)}$", other, is_same]]
+    yield searches(rows)
+    yield ("each character that has another in another letter case or in another normal form (NFC, NFKC), 100 in a "
+           "pattern: in none of those others, as alternatives and as a class")
+    pairs, rows = list(mapped_pairs()), []
+    for at in range(0, len(pairs), 100):
+        chunk = pairs[at:at + 100]
+        ones = "".join(dict.fromkeys(one for one, _ in chunk))
+        others = "".join(dict.fromkeys(other for _, other in chunk if other not in ones))
+        alternatives, members = "|".join(map(alone_in_pattern, ones)), "".join(map(quoted, ones))
+        rows += [[alternatives, others, False], [f"[{members}]", others, False], [f"^[^{members}]*$", others, True],
+                 [f"^(?:{alternatives})+$", ones, True], [f"^[{members}]+$", ones, True]]
+    yield searches(rows)
+    yield "a range has what lies between its ends by code points, and nothing that is like one of these"
+    spans = (
+        "az", "AZ", "09", "\u00e0\u00f6", "\u00c0\u00d6", "\u03b1\u03c9", "\u0391\u03a9", "\u0430\u044f",
+        "\u0410\u042f", "\u0561\u0586", "\u0531\u0556", "\u10d0\u10f0", "\uff21\uff3a", "\uff41\uff5a",
+        "\uff10\uff19", "\u30a1\u30f6", "\u3041\u3096", "\uff66\uff9d", "\U00010400\U00010427",
+        "\U00010428\U0001044f", "\u0660\u0669", "\u2460\u2468", "\u2160\u216b", "\u24b6\u24cf", "Za", "!/",
+        "\u2000\u200a")
+    rows = []
+    for (low, high), (first, last) in itertools.product(spans, repeat=2):
+        others = span(ord(first), ord(last))
+        having = [one for one in others if low <= one <= high]
+        rows += [[f"^[{low}-{high}]+$", others, len(having) == len(others)], [f"[{low}-{high}]", others, having != []],
+                 [f"[^{low}-{high}]", others, len(having) < len(others)], [f"^[^{low}-{high}]+$", others, having == []]]
+    yield searches(rows)
+    yield "what is like a sign of a pattern in width is no sign, and stands for itself"
+    wide = {chr(ord(sign) + 0xFEE0): sign for sign in map(chr, range(0x21, 0x7F))}
+    rows = []
+    for one, sign in wide.items():
+        rows += [[f"^{one}$", one, True], [f"^{one}$", sign, False], [f"^a{one}b$", f"a{one}b", True],
+                 [f"^a{one}b$", "ab", False], [f"^a{one}$", "aa", False], [f"^[a{one}b]$", one, True],
+                 [f"^[a{one}c]$", "b", False], [f"^{one}a", "a", False], [f"a{one}$", "a", False]]
+    yield searches(rows)
+    for of in (PATTERNS, WHOLE_PATTERNS):
+        yield texts(of, in_forms(("{}", "a{}", "{0}{0}", "{}a", "[{}a", "[{}]", "a{}*", "({})", "a{}1,0}}"), wide),
+                    lambda text: not re.search("^\\[.a$|}$", text))
+
+
+# Letters that are like digits of base 16, and digits that are none of ASCII.
+LIKE_HEXADECIMAL = (
+    "\uff10\uff19\uff21\uff26\uff41\uff46\u0410\u0430\u0391\u03b1\u0421\u0441\u0660\u0966\U0001d7ce\U0001d41a"
+    "\u00aa\u00c0\u0141\u0161\u0430")
+# Letters that are like those behind a backslash, or have their last eight bits.
+LIKE_ESCAPED = (
+    "\uff44\uff57\uff53\uff42\uff4e\uff54\uff58\uff55\uff50\uff4b\u0501\u0455\u0440\u0445\u043a\u0164\u0173\u0177"
+    "\u016e\u0174\u0178\u0175\u0170\u016b\u0163\u0130")
+
+
+def like_hexadecimal_rows():
+    """Letters and digits that are like those of ASCII, in codes, counts and letters behind a backslash."""
+    yield ("letters and digits that are like those of ASCII, or have their last bits, are none of a code, of a count, "
+           "of a property and behind a backslash")
+    forms = ("\\x{}1", "\\x4{}", "\\u{}041", "\\u0{}41", "\\u00{}1", "\\u004{}", "\\u{{{}}}", "\\u{{4{}}}", "[\\x4{}]",
+             "[\\u{{{}}}]", "(?<\\u006{}>x)", "(?<a\\u{{6{}}}>x)", "\\c{}", "[\\c{}]", "\\{}", "[\\{}]", "a{{{}}}",
+             "a{{1,{}}}", "\\p{{{}}}", "\\p{{L{}}}", "(?{}a)", "\\{}{{L}}")
+    for of in (PATTERNS, WHOLE_PATTERNS):
+        yield texts(of, in_forms(forms, LIKE_HEXADECIMAL + LIKE_ESCAPED), never)
+    yield "names of properties and values with a character that has the last bits of a letter"
+    names = ("L", "Lu", "Nd", "ASCII", "Any", "Alpha", "gc=Lu", "sc=Latn", "General_Category=L", "Script=Grek")
+    far = [name[:at] + chr(ord(name[at]) + more) + name[at + 1:] for name in names for at in range(len(name))
+           for more in (0x80, 0x100, 0x1000, 0xFF00, 0x10000, 0x100000)]
+    for of in (PATTERNS, WHOLE_PATTERNS):
+        yield texts(of, in_forms(("\\p{{{}}}", "[\\P{{{}}}]"), far), never)
+
+
+# Spellings of a character by its code; where they may stand, whatever the character is, and where none may.
+BY_CODES = ("\\x{:02x}", "\\x{:02X}", "\\u{:04X}", "\\u{{{:x}}}", "\\u{{0{:X}}}")
+PLACES_OF_CODES = (
+    "{}", "a{}", "{}a", "{0}{0}", "({})", "(?:{}a)", "(?={}a)", "(?<=a{})", "a|{}", "{}|", "^{}$", "a*{}", "{}*",
+    "a{{2}}{}", "[{}]", "[^{}]", "[{}a]", "[a{}]", "[z{}a]", "[^z{}a]", "[a-c{}]", "[a-c{}b]", "[\\d{}a]", "[a{}\\d]",
+    "[{0}{0}]", "[{0}-{0}]", "[\\0-{}]", "[{}-\\x7f]", "[{}-]", "[-{}]", "[{}^]", "[\\]{}]")
+NO_PLACES_OF_CODES = ("(?:{}", "a{{{}}}", "(?{}a)", "[{}-\\0]", "[\\d-{}]", "[b-a{}]", "\\p{{{}}}")
+
+
+def sign_code_rows():
+    """Signs of a pattern by their codes, which are characters that stand for themselves."""
+    yield ("a sign of a pattern or of a class by its code is that character and no sign (22.2.1, CharacterEscape), in "
+           "a pattern, in a class, and where no character may stand")
+    signs = SYNTAX + "-&~,:=!<>#@%0acdkpuwx\n "
+    written = [spelling.format(ord(sign)) for sign in signs for spelling in BY_CODES]
+    right, wrong = PLACES_OF_CODES, NO_PLACES_OF_CODES
+    for of in (PATTERNS, WHOLE_PATTERNS):
+        yield texts(of, in_forms(right, written), lambda text: True)
+        yield texts(of, in_forms(wrong, written), never)
+    yield "what such a sign matches, and what a class has that has it"
+    rows = []
+    for sign, spelling in itertools.product(signs, BY_CODES):
+        one = spelling.format(ord(sign))
+        for text in dict.fromkeys((sign, "b", "a", "^", "\x01")):
+            rows += [[f"^{one}$", text, text == sign], [f"^[{one}]$", text, text == sign],
+                     [f"^[^{one}]$", text, text != sign], [f"^[a{one}c]$", text, text in ("a", sign, "c")],
+                     [f"^[{one}a-b]$", text, text in (sign, "a", "b")],
+                     [f"^[\\d{one}c]$", text, text == sign or text in DIGITS + "c"],
+                     [f"^[{one}-{one}]$", text, text == sign], [f"^a{one}$", f"a{text}", text == sign],
+                     [f"^a{one}$", "aa", sign == "a"], [f"^a{one}?b$", "ab", True],
+                     [f"^(?:{one}|b)$", text, text in (sign, "b")]]
+    yield searches(rows)
+
+
+# Several characters that are one sign to a reader, or one and the same in another normal form.
+CLUSTERS = (
+    "e\u0301", "A\u030a", "\u1100\u1161", "\u1100\u1161\u11a8", "\uac00\u11a8", "\u0915\u093f", "\u0e01\u0e33",
+    "\u2764\ufe0f", "#\ufe0f\u20e3", "\U0001f1e9\U0001f1ea", "\U0001f44d\U0001f3fd", "\U0001f469\u200d\U0001f4bb",
+    "\r\n", "\u05d0\u05b8", "q\u0323\u0307", "\u4e00\U000e0100", "a\u200d", "\u0600\u0661", "fi", "ss", "...", "IJ",
+    "dz", "1\u20442", "\u0969\u094d", "x\u0300\u0300", "\u304b\u3099", "\uff76\uff9e")
+# Characters that are several in another normal form or letter case.
+SEVERAL_ELSEWHERE = (
+    "\u00e9\u00c5\u1e69\uac00\uac01\ufb01\u00df\u01c6\u2026\u00bd\u2460\u304c\u212b\u2126\u0958\ufb4f\u0149\u1f80")
+
+
+def cluster_rows():
+    """Several characters that are one sign, of which each is a character."""
+    yield ("several characters that make one sign are as many characters as code points (22.2.2): in counts, before a "
+           "quantifier, in a class, and beside the one character that they are in another normal form")
+    rows = []
+    for cluster in CLUSTERS:
+        size, last = len(cluster), cluster[-1]
+        first, single, members = alone_in_pattern(cluster[0]), alone_in_pattern(last), "".join(map(quoted, cluster))
+        written = "".join(map(alone_in_pattern, cluster))
+        for many in range(1, 6):
+            rows += [[f"^[^]{{{many}}}$", cluster, many == size], [f"^\\p{{Any}}{{{many}}}$", cluster, many == size],
+                     [f"^(?:[^][^]?){{{many}}}$", cluster, many <= size <= 2 * many]]
+        for form, others in {
+                f"^{written}?$": {cluster: 1, cluster[:-1]: 1, "": 0},
+                f"^{written}+$": {cluster + last: 1, cluster * 2: {*cluster} == {last}},
+                f"^{written}{{2}}$": {cluster + last: 1, cluster * 2: 0, cluster: 0},
+                f"^(?:{written}){{2}}$": {cluster * 2: 1, cluster + last: 0},
+                f"^[{members}]$": {cluster: 0, last: 1, cluster[0]: 1},
+                f"^[^{members}]$": {cluster: 0, last: 0, "b": 1},
+                f"^[{members}]{{{size}}}$": {cluster: 1, cluster[::-1]: 1}, f"(?<=^{first})[^]": {cluster: 1},
+                f"^[^](?={single}$)": {cluster: size == 2}, f"^(?!{written}$)": {cluster: 0, cluster[:-1]: 1},
+                first: {cluster: 1}, f"^{written}$": {cluster: 1, cluster + "a": 0}}.items():
+            rows += [[form, text, bool(found)] for text, found in others.items()]
+        for normal in ("NFC", "NFD", "NFKC", "NFKD"):
+            other = unicodedata.normalize(normal, cluster)
+            forms = "".join(map(alone_in_pattern, other))
+            rows += [[f"^{written}$", other, other == cluster], [f"^{forms}$", cluster, other == cluster]]
+    for one in SEVERAL_ELSEWHERE:
+        others = [unicodedata.normalize(form, one) for form in ("NFD", "NFKD")] + [one.upper(), one.casefold()]
+        for other in dict.fromkeys(others):
+            if other != one:
+                written, members = ("".join(map(form, other)) for form in (alone_in_pattern, quoted))
+                rows += [[f"^{one}$", other, False], [f"^{written}$", one, False], [f"^[{one}]$", other, False],
+                         [f"^[^{one}]$", other, len(other) == 1], [f"^[{members}]$", one, False]]
+    yield searches(rows)
+
+
+# What is passed over, or shown as nothing, where texts are compared or shown.
+PASSED_OVER = dict.fromkeys((*map(chr, range(33)), *HARDLY_SEEN, *JOINED, *(
+    "\u007f\u0085\u00a0\u115f\u1160\u17b4\u180b\u180f\u200c\u200f\u2028\u2029\u202a\u202e\u2061\u2064\u2066\u206f\u3164"
+    "\ufe00\uffa0\ufff9\ufffb\ufffc\U0001bca0\U0001d173\U000e0001\U000e007f\U000e01ef\ue000\U0010fffd-'.")))
+
+
+def passed_over_rows():
+    """Characters of a text that other ways of comparing pass over."""
+    yield "no character of a text is passed over: controls, what joins, marks, blanks and what is for private use"
+    rows = []
+    for one in PASSED_OVER:
+        rows += [["^ab$", f"a{one}b", False], ["ab", f"a{one}b", False], ["^a[^]b$", f"a{one}b", True],
+                 ["^a$", f"{one}a", False], ["^a+$", f"a{one}a", False], ["^$", one, False],
+                 ["(?<=a)b", f"a{one}b", False], ["a(?=b)", f"a{one}b", False],
+                 ["a(?!b)", f"a{one}b", True], ["^[ab]+$", f"a{one}b", False], ["^(?:ab|b)", f"{one}ab", False],
+                 ["^\\w+$", f"a{one}b", False], ["^[^]{2}$", f"a{one}b", False], ["^a\\b[^]\\bb$", f"a{one}b", True],
+                 ["^\\p{L}+$", f"a{one}b", one.isalpha()], ["^(?!.*b)", f"a{one}b", one in LINE_ENDS]]
+    yield searches(rows)
+
+
+# Other notations of a character, and the character.
+OTHER_NOTATIONS = {
+    "%41": "A", "&#65;": "A", "&#x41;": "A", "&amp;": "&", "&lt;": "<", "&quot;": "\"", "=41": "A", "0x41": "A",
+    "u0041": "A", "x41": "A", "~A": "A", "%u0041": "A", "&AMP": "&", "%0A": "\n", "<LF>": "\n", "<0x0A>": "\n",
+    "%%": "%", "''": "'", "\"\"": "\"", "&&": "&", "~~": "~", "@@": "@", "#A": "A", ":A:": "A", "{A}": "A",
+    "[A]": "A", "(A)": "A", "\\A": "A", "\\u0041": "A", "\\x41": "A", "\\n": "\n", "\\\\": "\\", "$1": "A", "$&": "A",
+    "${A}": "A", "^A": "\x01", "^J": "\n", "\\101": "A", "U+0041": "A", "\\cA": "\x01", "\\0": "\0", "\\t": "\t",
+    "\\/": "/", "\\\"": "\"", "\\u{41}": "A"}
+
+
+def notation_rows():
+    """Characters as other notations write them."""
+    yield ("what other notations write for a character stands for itself, in a text and, where a pattern may have it, "
+           "in a pattern")
+    rows = []
+    for written, one in OTHER_NOTATIONS.items():
+        itself, single = "".join(map(alone_in_pattern, written)), alone_in_pattern(one)
+        members = "".join(map(quoted, written))
+        rows += [[f"^{itself}$", written, True], [f"^{itself}$", one, False], [f"^{single}$", written, False],
+                 [f"^[^]{{{len(written)}}}$", written, True], [f"^[{quoted(one)}]$", written, False],
+                 [f"^[{members}]{{{len(written)}}}$", written, True], [f"^[{members}]$", one, one in written],
+                 [f"^[^{members}]$", one, one not in written], [f"(?<=^{itself})", one, False]]
+        if itself == written:
+            rows += [[f"^(?:{written}|b)$", one, False], [f"{written}", f"b{written}b", True]]
+    yield searches(rows)
+
+
+# Classes of other notations (POSIX, UTS #18, the flag v, Java and others), and whether they are patterns here.
+OTHER_CLASSES = {
+    "[[:alpha:]]": 0, "[[:^alpha:]]": 0, "[[:word:]a]": 0, "[^[:digit:]]": 0, "[[=a=]]": 0, "[[.a.]]": 0,
+    "[[:alpha:]": 1, "[:alpha:]": 1, "[[:]": 1, "[[.a.]": 1, "[[=a=]": 1, "[[a]b]": 0, "[a[b]]": 0, "[[a]&&[b]]": 0,
+    "[a&&b]": 1, "[a&&[b]]": 0, "[a&&[^b]]": 0, "[a--b]": 0, "[b--a]": 0, "[a~~b]": 1, "[a||b]": 1, "[[a-z]--[b]]": 0,
+    "[a-z--b]": 1, "[\\w--b]": 0, "[\\w--[b]]": 0, "[\\w&&\\d]": 1, "[\\p{L}&&\\p{N}]": 1, "[\\p{L}--\\p{N}]": 0,
+    "[\\q{abc}]": 0, "[\\q{a|b}]": 0, "[a-z-[b]]": 0, "[a-z-[b]": 1, "[a-]]": 0, "[]a]": 0, "[^]a]": 0, "[a]]": 0,
+    "[[]": 1, "[[[]": 1, "[[]]": 0, "[(a)]": 1, "[(?:a)]": 1, "[a|b]": 1, "[{2}]": 1, "[a{2}]": 1, "[a*+?]": 1,
+    "[.]": 1, "[$^]": 1, "[^^$]": 1, "[\\R]": 0, "[\\h]": 0, "[\\X]": 0, "[\\N{DIGIT ONE}]": 0, "[\\N]": 0,
+    "[\\Q*\\E]": 0, "[\\A]": 0, "[\\e]": 0, "[\\a]": 0, "[\\x{41}]": 0, "[\\o{101}]": 0, "[\\101]": 0, "[\\p L]": 0,
+    "[\\pL]": 0, "[\\p{^L}]": 0, "[\\P{^L}]": 0, "[!a]": 1, "[a!b]": 1, "[#a]": 1, "[ a ]": 1, "[a b]": 1, "[a,b]": 1,
+    "[\"a\"]": 1, "[/a/]": 1, "[a-z/]": 1, "[/*]": 1, "[//]": 1, "[a\nb]": 1, "[a#b]": 1, "[%]": 1, "[&]": 1,
+    "[&&]": 1, "[&&&]": 1, "[!!]": 1, "[##]": 1, "[$$]": 1, "[%%]": 1, "[**]": 1, "[++]": 1, "[,,]": 1, "[..]": 1,
+    "[::]": 1, "[;;]": 1, "[<<]": 1, "[==]": 1, "[>>]": 1, "[??]": 1, "[@@]": 1, "[^^^]": 1, "[``]": 1, "[~~]": 1}
+# What some of them have, of the characters below.
+HAVING_OTHERS = {
+    "[:alpha:]": ":alph", "[[:alpha:]": "[:alph", "[[.a.]": "[.a", "[[=a=]": "[=a", "[a&&b]": "ab&", "[a~~b]": "ab~",
+    "[a||b]": "ab|", "[a-z--b]": "abhlpz[].:=-?^21", "[a-z-[b]": "abhlpz-[", "[(a)]": "(a)", "[a{2}]": "a{2}",
+    "[a*+?]": "a*+?", "[^^$]": "abhlpz[].:=&~|-(){}2*+? #\n,1", "[ a ]": " a", "[a\nb]": "a\nb", "[a#b]": "a#b",
+    "[\\w&&\\d]": "abhlpz21&", "[a,b]": "a,b"}
+TRIED_IN_OTHERS = "abhlpz[].:=&~|-(){}2*+?^$ #\n,1"
+
+
+def other_class_rows():
+    """Classes as other notations write them."""
+    yield ("classes of other notations: a `[` in a class is a character, the first `]` ends it, and no two signs are "
+           "one (22.2.1, CharacterClass without the flag `v`)")
+    forms = ("{}", "a{}*", "({})|b", "(?={})", "(?<!{})")
+    expected = {form.format(one): bool(is_right) for one, is_right in OTHER_CLASSES.items() for form in forms}
+    for of in (PATTERNS, WHOLE_PATTERNS):
+        yield texts(of, expected, expected.get)
+    yield searches([[f"^{one}$", character, character in having]
+                    for one, having in HAVING_OTHERS.items() for character in TRIED_IN_OTHERS])
+    signs = "!#$%&*+,.:;<=>?@^`~-|(){}/\"'_ a0"
+    doubled = {f"[a{one}{other}b]": one != "-" or other != "-" for one, other in itertools.product(signs, repeat=2)
+               if "-" not in (one, other)}
+    doubled |= {f"[a{one}{one}{one}b]": True for one in signs if one != "-"}
+    for of in (PATTERNS, WHOLE_PATTERNS):
+        yield texts(of, doubled, doubled.get)
+    yield searches([[f"^[a{one}{other}b]$", text, text in ("a", "b", one, other)] for one, other in
+                    itertools.product(signs.replace("-", ""), repeat=2) for text in ("a", "b", one, other, "c", "")])
+
+
+# Properties that are not known here, and what may stand around one in a class.
+UNKNOWN_PROPERTIES = (
+    "\\p{Foo}", "\\P{Foo}", "\\p{gc=Foo}", "\\p{Script=Latim}", "\\p{scx=Latn}", "\\P{lu}", "\\p{a=b}", "\\p{Is_L}",
+    "\\p{CWKCF}", "\\P{scx=Zyyy}")
+PLACES_IN_CLASSES = (
+    "[{}]", "[^{}]", "[a{}]", "[^a{}]", "[a-{}]", "[^a-{}]", "[\\d{}]", "[\\d-{}]", "[a-z{}]", "[a-z-{}]", "[-{}]",
+    "[--{}]", "[\\p{{L}}{}]", "[\\P{{sc=Latn}}-{}]", "[{}b]", "[{}-b]", "[{}-]", "[{}", "[^{}", "[a-{}", "(?:[{}])",
+    "(?=[^{}])", "(?<![a{}])", "[a][{}]", "[^][{}]", "[]{}", "[\\]{}]", "[[{}]", "[\\u0041{}]", "[\\cA-{}]",
+    "[\\--{}]", "[\\0{}]", "[\\b{}]", "[b{}-a]", "[{0}{0}]", "[{}\\!]", "[{}b-a]", "[\\x41-\\x5a{}", "a*[{}]",
+    "(?<n>[{}])", "[/{}]", "[^^{}]")
+
+
+def class_reason_rows():
+    """Properties that are not known here, at each place of a class."""
+    yield "a property that is not known here is told at each place of a class, whatever stands behind it"
+    yield refusals("it has a property that is not known here", in_forms(PLACES_IN_CLASSES, UNKNOWN_PROPERTIES))
+    yield "and what makes no pattern before it is told first"
+    spoilt = ("[b-a{}]", "[\\!{}]", "[\\d-a{}]", "[a-\\d{}]", "[\\c1{}]", "[\\u{{}}{}]", "[\\1{}]",
+              "[\\k{}]", "[\\x4{}]", "[\\p{{L{}]", "]{}", "[^b-a{}]", "[\\B{}]", "[\\ud83d{}]", "[\\u{{110000}}{}]")
+    yield refusals(NOT_TAKEN, in_forms(spoilt, UNKNOWN_PROPERTIES))
+
+
+# Code points at the ends of 64, 4,096 and more, where the bytes of a text are others.
+FURTHER_ENDS = [place + more for place in (0x1F000, 0x40000, 0x80000, 0x100000) for more in (0, 0x40, 0x400, 0x800)]
+ENDS_OF_POINTS = sorted({
+    *range(0x40, 0x1000, 0x40), *range(0x1000, 0x11000, 0x1000), *range(0x10400, 0x20000, 0x400),
+    *range(0x20000, 0x110000, 0x10000), *FURTHER_ENDS, 0x10FFC0} - {*range(0xD800, 0xE001)})
+
+
+def page_edge_rows():
+    """Ranges that begin or end at each of many code points."""
+    yield ("ranges that begin before and behind the ends of 64, 4,096 and 65,536 code points: what is in them, in a "
+           "class and a negated one, alone and beside others")
+    rows = []
+    for point in ENDS_OF_POINTS:
+        before, at, behind, further = chr(point - 2), chr(point - 1), chr(point), chr(point + 1)
+        for low, high in ((at, behind), (behind, further), (before, at)):
+            low_written, high_written = escaped(low), escaped(high)
+            others = [one for one in (before, at, behind, further) if one not in (low, high)]
+            for text in (before, at, behind, further):
+                is_in = low <= text <= high
+                rows.append([f"^[{low_written}-{high_written}]$", text, is_in])
+            rows += [[f"^[^{low_written}-{high_written}]+$", before + at + behind + further, False],
+                     [f"^(?:a|[{low_written}-{high_written}])+$", f"{low}a{high}", True],
+                     [f"[{low_written}-{high_written}]", "".join(others), False]]
+    yield searches(rows)
+
+
+# What stands in a class as it may be written, and what of the characters below it has; a set has no code point.
+ATOMS_OF_CLASSES = {
+    "a": "a", "z": "z", "-": "-", "^": "^", "\\x2d": "-", "\\-": "-", "\\d": "5", "\\p{Lu}": "M"}
+SETS_AMONG_ATOMS = ("\\d", "\\p{Lu}")
+TRIED_IN_CLASSES = "-.5Mam^z~"
+
+
+def contents_of_class(atoms):
+    """What atoms one behind another have, as those of a class (22.2.1, ClassContents); `None` where they are none."""
+    having, place = "", 0
+    while place < len(atoms):
+        one = atoms[place]
+        if atoms[place + 1:place + 2] == ("-",) and place + 2 < len(atoms):
+            low, high = ATOMS_OF_CLASSES[one], ATOMS_OF_CLASSES[atoms[place + 2]]
+            if one in SETS_AMONG_ATOMS or atoms[place + 2] in SETS_AMONG_ATOMS or low > high:
+                return None
+            having += "".join(character for character in TRIED_IN_CLASSES if low <= character <= high)
+            place += 3
+        else:
+            having += ATOMS_OF_CLASSES[one]
+            place += 1
+    return having
+
+
+def class_content_rows():
+    """Characters, sets and hyphens one behind another in a class."""
+    yield ("up to four characters, hyphens, signs by their codes and sets one behind another in a class and in a "
+           "negated one: which are a class, and what up to three have")
+    every = [atoms for size in range(1, 5) for atoms in itertools.product(ATOMS_OF_CLASSES, repeat=size)]
+    told = {atoms: contents_of_class(atoms) for atoms in every}
+    expected = {f"[{''.join(atoms)}]": having is not None for atoms, having in told.items() if atoms[0] != "^"}
+    expected |= {f"[^{''.join(atoms)}]": having is not None for atoms, having in told.items() if len(atoms) < 4}
+    for of in (PATTERNS, WHOLE_PATTERNS):
+        yield texts(of, expected, expected.get)
+    rows = []
+    for atoms, having in told.items():
+        if having is not None and len(atoms) < 4:
+            has = "".join(character for character in TRIED_IN_CLASSES if character in having)
+            lacks = "".join(character for character in TRIED_IN_CLASSES if character not in having)
+            class_of, negated = f"[{''.join(atoms)}]", f"[^{''.join(atoms)}]"
+            if atoms[0] != "^":
+                rows += [[f"^{class_of}+$", has, True], [class_of, lacks, False]]
+            rows += [[f"^{negated}*$", lacks, True], [negated, has, False]]
+    yield searches(rows)
+
+
+# Words that are more than names elsewhere.
+KNOWN_WORDS = (
+    "null undefined true false NaN Infinity None nil any void this super class function return if else var let "
+    "const new in of typeof delete yield await async static get set enum import export default constructor "
+    "prototype __proto__ __defineGetter__ hasOwnProperty toString valueOf length groups index indices input "
+    "lastIndex flags source global sticky unicode exec test match replace arguments eval self cls def lambda not "
+    "and or is").split()
+
+
+def language_word_rows():
+    """Words that are more than names elsewhere, as patterns, as texts and as names of groups."""
+    yield "a word of a language is its characters, as a pattern and as a text, and names a group as others do (22.2.1)"
+    names = in_forms(("(?<{}>x)", "(?<{0}>x)(?<{0}1>y)", "a|(?<{}>)", "{}"), KNOWN_WORDS)
+    for of in (PATTERNS, WHOLE_PATTERNS):
+        yield texts(of, names, lambda text: True)
+        yield texts(of, [f"(?<{word}>x)(?<{word}>y)" for word in KNOWN_WORDS], never)
+    yield texts(WHOLE_PATTERNS, in_forms(("(?<{0}>x)\\k<{0}>", "\\k<{0}>(?<{0}>)"), KNOWN_WORDS), lambda text: True)
+    yield texts(WHOLE_PATTERNS, in_forms(("\\k<{}>", "(?<{0}a>)\\k<{0}>", "(a)\\k<{}>"), KNOWN_WORDS), never)
+    rows = []
+    for word in KNOWN_WORDS:
+        rows += [[word, text, word in text] for text in (
+            "", word, word[1:], word[:-1], f"a{word}", f"{word} a", word.upper(), "null", "undefined", "true", "0")]
+        rows += [[f"^(?<{word}>a)$", "a", True], [f"^(?<{word}>a)$", word, False], [f"^{word}$", word + word, False]]
+    yield searches(rows)
+
+
+# Patterns of schemas, in which each part is one of Python too but for what `in_other_notation` turns; and texts.
+COMMON_PATTERNS = (
+    "", "^", "$", "^$", ".", "^.", ".$", "^.$", ".*", "^.*$", "^.*", ".*$", ".+", "^.+$", "^.+", ".+$", "^.?$",
+    "^.{1,3}$", "^.{0,2}$", "[^]", "^[^]$", "^[^]*$", "^[^]+$", "^[^]{2,3}$", "\\S", "^\\S+$", "^\\S*$", "\\s",
+    "^\\s+$", "^\\s*$", "^[\\s\\S]+$", "^[\\d\\D]*$", "^\\w+$", "\\w", "\\W", "^\\W+$", "^\\d+$", "\\d", "^\\D*$",
+    "^[a-z]+$", "^[A-Z]+$", "^[a-zA-Z0-9_-]+$", "^[^/]+$", "^[^\\s]+$", "^[^ ]+$", "^\\S(.*\\S)?$", "^[^\\n]*$",
+    "^(?!\\s*$).+", "^(?!\\s)[^]*\\S$", "^(?=.*\\d)(?=.*[a-z])", "^\\/", "^(\\/[^/]+)*\\/?$", "\\.json$",
+    "^.*\\.json$", "^[a-z]+(-[a-z]+)*$", "^[a-z][a-z0-9]*$", "^#([0-9a-f]{3}){1,2}$", "^(0|[1-9]\\d*)$",
+    "^-?\\d+(\\.\\d+)?$", "^\\d{4}-\\d\\d-\\d\\d$", "^\\d{1,3}(\\.\\d{1,3}){3}$", "^https?:", "^[^@]+@[^@]+$",
+    "^(a|b|ab)+$", "^(true|false)$", "^\\$", "^\\^", "^x-", "^(?!x-)", "^_", "a", "^a", "a$", "^a$", "a|b", "^a|b$",
+    "^(a|b)$", "\\ba\\b", "\\Ba", "(?<=a)b", "(?<!a)b", "a(?!b)", "^[^a]", "[^a]$", "^a.b$", "^a[^]b$", "a\\sb",
+    "a\\nb", "^a\\.b$", "^\\u0061$", "^(?:a*)*$", "^a*?$", "^(a?)+$")
+TEXTS_OF_SCHEMAS = (
+    "", "a", "b", "A", "ab", "ba", "aa", "a b", " a", "a ", " ", "  ", "\n", "\r", "\r\n", "a\n", "\na", "a\nb",
+    "a\rb", "a\u2028b", "a\u2029", "\u2028", "a\u0085", "\u0085", "\ta", "\u00a0", "\ufeff", "\ufeffa", "\0", "\0a",
+    "0", "1", "01", "10", "-1", "1.5", "1.", "1,5", "\u0661", "2020-01-31", "2020-1-31", "1.2.3.4", "1.2.3", "a.b",
+    "a-b", "a--b", "-a", "a_b", "_a", "x-a", "X-a", "/a", "/a/b/", "a/b", "//", "#fff", "#ff", "#ffffff", "a.json",
+    ".json", "json", "a.json\n", "a.JSON", "http:", "https:", "ftp:", "a@b", "a@b@c", "@", "true", "false", "True",
+    "$a", "^a", "\u00e9", "\u00c9", "e\u0301", "\u4e00", "\U0001f600", "a\U0001f600", "\U0001f600\U0001f600", "a1b",
+    "1a", "abc", "abcd", "a\U0001f600b", "a\u00e9b", "a\tb", "a..b", "a  b", "\u017f", "\u212a", "\n\n", "a\n\n",
+    "aab", "abab", "caba")
+
+
+def in_other_notation(pattern):
+    """A pattern of these in the notation of Python, with the sets and the ends of lines of ECMA-262."""
+    turned = {
+        "[^]": "(?s:.)", "[\\s\\S]": "(?s:.)", "[\\d\\D]": "(?s:.)", "[^\\s]": f"[^{WHITE_SPACE}]",
+        "\\s": f"[{WHITE_SPACE}]", "\\S": f"[^{WHITE_SPACE}]", "\\$": "\\$", "\\^": "\\^", "$": "\\Z", "\\.": "\\.",
+        ".": f"[^{LINE_ENDS}]", "\\/": "/", "\\B": "(?!\\b)"}
+    parts = re.split("(" + "|".join(map(re.escape, turned)) + ")", pattern)
+    return re.compile("".join(turned.get(part, part) for part in parts), re.ASCII)
+
+
+def common_pattern_rows():
+    """Patterns as schemas have them, in many texts."""
+    yield "patterns as schemas have them, in texts with ends of lines, blanks, signs and characters past ASCII"
+    rows = []
+    for pattern in COMMON_PATTERNS:
+        found = in_other_notation(pattern)
+        rows += [[pattern, text, found.search(text) is not None] for text in TEXTS_OF_SCHEMAS]
+    yield searches(rows)
+
+
+# Sizes at the ends of bits and beside them.
+SIZES_AT_ENDS = (
+    1, 2, 3, 4, 5, 7, 8, 9, 15, 16, 17, 31, 32, 33, 63, 64, 65, 127, 128, 129, 255, 256, 257, 511, 512, 513, 1025, 1500)
+# What stands before and behind many characters in a pattern, the same in a text, and whether the pattern is found.
+AROUND_MANY = (
+    ("", "", "", "", True), ("", "x", "", "y", False), ("x", "", "y", "", False), ("x", "$", "yx", "", True),
+    ("^", "$", "", "", True), ("", "x", "", "x", True), ("^", "x", "", "xy", True), ("x", "", "x", "", True),
+    ("^", "$", "", "x", False), ("^", "$", "x", "", False), ("(?:", "){1}x", "", "x", True),
+    ("(?<=x", ")y", "x", "y", True), ("(?<=x", ")y", "z", "y", False), ("x(?=", "y)", "x", "y", True),
+    ("x(?=", "y)", "x", "z", False), ("^(?!", "x)", "", "x", False), ("^(?!", "x)", "", "y", True))
+
+
+def long_literal_rows():
+    """Patterns of many different characters, in the same and in what differs in one."""
+    yield "patterns of many characters, in a text of the same, and in texts that differ in one or lack one"
+    rows = []
+    for size in SIZES_AT_ENDS:
+        tens, ones = divmod(size, 10)
+        written = [part for part in (["abcdefghij", tens], ["abcdefghij"[:ones], 1]) if part[0] and part[1]]
+        for before, behind, head, tail, is_found in AROUND_MANY if size < 130 else AROUND_MANY[:4]:
+            pattern, text = [[before, 1], *written, [behind, 1]], [[head, 1], *written, [tail, 1]]
+            rows.append([[part for part in pattern if part[0]], [part for part in text if part[0]], is_found])
+        rows += [[written, [["bcdefghija", tens], ["abcdefghij"[:ones], 1]], False]] if tens else []
+    yield long_searches(rows)
+
+
+# What is looked for, where, and what is not there.
+LOOKED_FOR = (
+    ("abc", "abc", "abd"), ("ab+c", "abbc", "ac"), ("a[^]c", "a\u00e9c", "ac"), ("^[^a]*abc", "abc", "aabc"),
+    ("abc$|abcx*$", "abc", "abcy"), ("a(?=bc)", "abc", "abd"), ("(?<=ab)c", "abc", "acb"), ("a\\bb|abc", "abc", "ab"),
+    ("(?:a|b){2}c", "bac", "bc"), ("a(?!b)", "ac", "ab"), ("a\\d{2}", "a12", "a1b"),
+    ("\\u{1F601}", "\U0001f601", "\U0001f602"))
+
+
+def far_text_rows():
+    """What stands behind and before characters of one to four bytes, so many of them."""
+    yield ("what is looked for stands behind and before so many characters of one to four bytes, or something like it "
+           "does")
+    rows = []
+    for character in ("x", "\u00e9", "\u4e00", "\U0001f600"):
+        for size in (*range(0, 36), *SIZES_AT_ENDS[18:]):
+            patterns = LOOKED_FOR if size < 20 or size in SIZES_AT_ENDS else LOOKED_FOR[:3]
+            for pattern, right, wrong in patterns:
+                beside = [character, size] if pattern != "abc$|abcx*$" or character == "x" else ["", 0]
+                for text in (right, wrong):
+                    parts = [part for part in ([character, size], [text, 1], beside) if part[0] and part[1]]
+                    rows.append([[[pattern, 1]], parts, text is right])
+    yield long_searches(rows)
+
+
+def nested_look_rows():
+    """Look-arounds of each kind within one another."""
+    yield "up to four look-arounds of each kind, directly in one another and beside a character, in short texts"
+    looks, rows = ("(?={})", "(?!{})", "(?<={})", "(?<!{})"), []
+    for size, body in itertools.product((2, 3, 4), ("a", "^", "$", "\\b")):
+        for chosen in itertools.product(looks, repeat=size):
+            pattern = functools.reduce(lambda inner, look: look.format(inner), chosen, body)
+            for form in ("{}", "b{}", "{}b") if size < 4 else ("{}b",):
+                written = form.format(pattern)
+                rows += [[written, word, re.search(written, word) is not None] for word in ("", "b", "ab", "ba")]
+    yield searches(rows)
+
+
+def deep_quantifier_rows():
+    """Quantifiers behind groups in one another."""
+    yield "a quantifier behind each of many groups in one another"
+    rows = []
+    for deep in (2, 3, 4, 5, 8, 9, 16, 17, 32, 33, 64, 65, 128, 200, MOST_DEEP):
+        for quantifier, few in (("*", 1), ("+", 1), ("?", 0), ("{1}", 0), ("{0,1}", 0), ("*?", 1), ("{1,}", 1)):
+            for opening in ("(", "(?:"):
+                pattern = [["^", 1], [opening, deep], ["a", 1], [f"){quantifier}", deep], ["$", 1]]
+                if quantifier == "{1,}" and deep > 9 or quantifier in ("?", "{0,1}") and deep > 128:
+                    continue
+                for size in range(4):
+                    least = 0 if quantifier in ("*", "?", "{0,1}", "*?") else 1
+                    rows.append([pattern, [["a", size]] if size else [], size >= least and (size < 2 or bool(few))])
+                rows.append([pattern, [["b", 1]], False])
+    yield long_searches(rows)
+
+
+def count_end_rows():
+    """Counts at the ends of bits and of digits."""
+    yield "counts at the ends of bits and of digits: as many letters, one less and one more"
+    rows = []
+    sizes = (1, 2, 3, 4, 7, 8, 9, 10, 11, 16, 17, 32, 33, 63, 64, 65, 99, 100, 101, 127, 128, 129, 255, 256, 257, 512,
+             513, 999, MOST_TIMES)
+    for size in (size for size in sizes if size <= MOST_TIMES):
+        counted = {f"a{{{size}}}": (size, size), f"a{{{size},}}": (size, None), f"a{{0,{size}}}": (0, size),
+                   f"a{{{size - 1},{size}}}": (size - 1, size),
+                   f"a{{0{size}}}": (size, size)}
+        for pattern, (least, greatest) in counted.items():
+            for more in (-1, 0, 1):
+                is_found = least <= size + more and (greatest is None or size + more <= greatest)
+                rows.append([[["^", 1], [pattern, 1], ["$", 1]], [["a", size + more]] if size + more else [], is_found])
+    yield long_searches(rows)
+
+
+def runs_of(points):
+    """The first and the last of each run of code points."""
+    ends_of_runs, before = [], None
+    for point in points:
+        if before is None or point != before + 1:
+            ends_of_runs += [point] if before is None else [before, point]
+        before = point
+    return [*dict.fromkeys([*ends_of_runs, before])]
+
+
+# The categories of which the editions since Unicode 14 have added nothing but what is named above.
+LETTERS_AND_MARKS = ("Lu", "Ll", "Lt", "Lm", "Lo", "Mn", "Mc", "Nd")
+# Characters whose category has changed since Unicode 14.
+CHANGED_POINTS = (0x295, 0x1171E)
+
+
+def category_edge_rows():
+    """The ends of all runs of characters of one category."""
+    yield ("the first and the last of each run of letters, marks and digits of one category, and those beside it of "
+           "another one: the category has these, and not those")
+    by_point = {point: unicodedata.category(chr(point)) for point in range(0x110000)
+                if point not in ADDED_POINTS and point not in CHANGED_POINTS}
+    rows = []
+    for category in LETTERS_AND_MARKS:
+        points = runs_of([point for point, known in by_point.items() if known == category])
+        inside = "".join(map(chr, points))
+        beside = {point + off for point in points for off in (-1, 1)}
+        others = [point for point in sorted(beside) if by_point.get(point) in LETTERS_AND_MARKS
+                  and by_point[point] != category]
+        outside = "".join(map(chr, others))
+        rows += [[f"^\\p{{{category}}}+$", inside, True], [f"\\p{{{category}}}", outside, False],
+                 [f"^[^\\p{{gc={category}}}]+$", outside, True], [f"\\P{{{category}}}", inside, False],
+                 [f"^\\p{{{category[0]}}}+$", inside, True]]
+    yield searches(rows)
+
+
+# Letter numbers beside others that are since Unicode 18.
+ADDED_NUMBERS = (0x1246F, 0x1247F)
+
+
+def name_edge_rows():
+    """The ends of all runs of characters that a name may have."""
+    yield ("the first and the last of each run of characters that may stand in a name, in names of many, and those "
+           "beside each run, in a name each")
+    for before, is_right in (("(?<", is_name_start), ("(?<a", is_name_part)):
+        points = runs_of([point for point in range(0x80, 0x110000) if point not in ADDED_POINTS
+                          and not is_surrogate(point) and is_right(point)])
+        right = [before + "".join(map(chr, points[at:at + 500])) + ">x)" for at in range(0, len(points), 500)]
+        if before == "(?<":
+            right = [f"(?<{chr(point)}>x)" for point in points]
+        beside = sorted({point + off for point in points for off in (-1, 1)})
+        beside = [point for point in beside if point not in ADDED_POINTS and point not in ADDED_NUMBERS
+                  and not is_surrogate(point)]
+        wrong = [f"{before}{chr(point)}>x)" for point in beside if not is_right(point)]
+        for of in (PATTERNS, WHOLE_PATTERNS):
+            yield texts(of, right, lambda text: True)
+            yield texts(of, wrong, never)
+
+
+# What may stand at the front behind `^` and looks far, and what may be left, each with whether it looks far in one
+# direction at most; they are patterns of Python too.
+FAR_FRONTS = {
+    "": 1, "(?=ab)": 1, "(?!ba)": 1, "(?=a(?=ba))": 1, "(?!b(?!ab))": 1, "(?=[ab]*(?<=bb))": 1, "(?!a(?<!ba)b)": 1,
+    "(?=[ab]*(?<=bb)a(?=ba))": 0, "(?![ab](?<=ab)(?!bb))": 0}
+FAR_RESTS = {
+    "[ab]*$": 1, "a(?=ba)": 1, "[ab](?!ab)": 1, "[ab]*(?<=ab)$": 1, "(?:a(?=ba)b)*a": 1, "(?:[ab](?<!bb))*$": 1,
+    "[ab]*(?<=ab)b(?=ba)": 0, "[ab]*(?<!ab)(?!ba)": 0}
+
+
+def front_table_rows():
+    """Look-aheads at the front and what is left, where each looks far."""
+    yield ("a part that looks far in one direction alone has a table, the look-aheads at the front and what is left "
+           "each for itself")
+    fronts = [pair for pair in itertools.product(FAR_FRONTS, repeat=2) if pair != ("", "") and pair[0] != pair[1]]
+    rows = [[f"^{one}{other}{rest}", bool(FAR_FRONTS[one] and FAR_FRONTS[other] and FAR_RESTS[rest])]
+            for (one, other), rest in itertools.product(fronts, FAR_RESTS)]
+    yield tables(rows)
+    yield "and they are found by each of them, in each text of a and b"
+    yield searches([[f"^{front}{rest}", word, re.search(f"^{front}{rest}", word) is not None]
+                    for front, rest in itertools.product(FAR_FRONTS, FAR_RESTS) for word in words("ab", range(6))])
+
+
+def name_sequence_rows():
+    """Names of up to four letters, digits and signs."""
+    yield "names of up to four letters, digits, `$` and `_`: any but a digit first (12.7, IdentifierName)"
+    every = ["".join(name) for size in range(1, 5) for name in itertools.product("aA1$_", repeat=size)]
+    expected = {f"(?<{name}>x)": name[0] != "1" for name in every}
+    for of in (PATTERNS, WHOLE_PATTERNS):
+        yield texts(of, expected, expected.get)
+    right = [name for name in every if name[0] != "1" and len(name) < 4]
+    yield texts(WHOLE_PATTERNS, in_forms(("(?<{0}>x)\\k<{0}>", "\\k<{0}>(?<{0}>x)"), right), lambda text: True)
+    few = [name for name in right if len(name) < 3]
+    twice = {f"(?<{one}>x)(?<{other}>y)": one != other for one, other in itertools.product(few, repeat=2)}
+    for of in (PATTERNS, WHOLE_PATTERNS):
+        yield texts(of, twice, twice.get)
+    known = {f"(?<{one}>x)\\k<{other}>": one == other for one, other in itertools.product(few, repeat=2)}
+    yield texts(WHOLE_PATTERNS, known, known.get)
+
+
+# Atoms that may stand in a class too, each with a character that it has and one that it has not.
+ATOMS_OF_BOTH = {
+    "a": "ab", "1": "12", "-": "-a", " ": " a", ",": ",a", "\u00e9": "\u00e9e", "\U0001f600": "\U0001f600a",
+    "\\0": "\x000", "\\cA": "\x01A", "\\cj": "\nj", "\\x41": "Ax", "\\u0041": "Au", "\\u{41}": "A{",
+    "\\u{1F600}": "\U0001f600u", "\\ud83d\\ude00": "\U0001f600d", "\\d": "7d", "\\D": "D7", "\\w": "w\u00e9",
+    "\\W": "-W", "\\s": "\u3000s", "\\S": "S\ufeff", "\\p{L}": "L1", "\\P{L}": "1L", "\\p{sc=Grek}": "\u03a9p",
+    "\\n": "\nn", "\\v": "\x0bv", "\\/": "/\\", "\\^": "^\\", "\\]": "]\\", "\\\\": "\\/"}
+
+
+def escape_pair_rows():
+    """Each atom behind each other, where both may stand in a class too."""
+    yield "an escape or a character behind each other, in a pattern and in a class: each is read for itself"
+    rows = []
+    for (one, (has, lacks)), (other, (also, misses)) in itertools.product(ATOMS_OF_BOTH.items(), repeat=2):
+        is_taken = None if one == "\\0" and other == "1" else True
+        either = None if one == "\\0" and other == "1" or one == "-" == other else True
+        rows += [[f"^{one}{other}$", has + also, is_taken], [f"^{one}{other}$", lacks + also, is_taken and False],
+                 [f"^{one}{other}$", has + misses, is_taken and False], [f"^{one}{other}*$", has, is_taken],
+                 [f"^(?:{one}{other}){{2}}$", (has + also) * 2, is_taken], [f"^{one}{other}$", has, is_taken and False]]
+        if other != "-" and one != "-" and one != "^":
+            rows += [[f"^[{one}{other}]{{2}}$", has + also, either], [f"^[{one}{other}]{{2}}$", also + has, either],
+                     [f"^[^{one}{other}]*$", has, either and False], [f"[^{one}{other}]", also, either and False]]
+    yield searches(rows)
+
+
+# Patterns that read something in each way, in the notation of Python too; and short texts.
+DEEP_BODIES = (
+    "a*b", "a+b", "a?b", "a{2}", "a{2,}b", "a{1,3}b", "a*?b", "a{0}b", "a|b", "|b", "a|bb|ab", "[^a]", "[^]", ".",
+    "\\d", "\\D", "\\w", "\\W", "\\s", "\\S", "\\bb", "\\Bb", "a\\Bb", "^b", "b$", "a^b", "(?!a)b", "(?<!a)b",
+    "(?=a)a", "(?=b)a", "(?<=a)b", "a(?<=a)b", "a(?<!b)b", "[a-c]", "[^b-d]", "[\\d-]", "\\u0041", "\\x41", "\\0",
+    "\\n", "\\cA", "(?:ab)*b", "(?:a|ab)b", "(?:a?)+b", "(?:a*){2}b", "()", "(a)(b)", "a\\.", "\\u{1F600}")
+SHORT_TEXTS = ("", "a", "b", "ab", "bb", "aab", "1", "\n", "\0", "\U0001f600", "a.")
+
+
+def depth_rows():
+    """Each kind of term within many groups and look-arounds of each kind."""
+    yield "each kind of term means the same within many groups and look-arounds, of each kind, in one another"
+    rows = []
+    for body in DEEP_BODIES:
+        turned = body.replace("\\u{1F600}", "\U0001f600").replace("\\cA", "\x01").replace("$", "\\Z")
+        found = re.compile(f"(?:{in_python(turned)})\\Z", re.ASCII)
+        for word in SHORT_TEXTS:
+            stands = found.match(word) is not None
+            for deep in (2, 3, 4, 33, MOST_DEEP - 3):
+                ends_of_groups = ")" * deep
+                forms = {f"^{'(' * deep}{body}{ends_of_groups}$": stands,
+                         f"^{'(?:' * deep}{body}{ends_of_groups}$": stands,
+                         f"^{'(?:c|' * deep}{body}{ends_of_groups}$": stands,
+                         f"^{'(?=' * deep}(?:{body})${ends_of_groups}": stands,
+                         f"{'(?<=' * deep}^(?:{body}){ends_of_groups}$": stands,
+                         f"^{'(?!' * deep}(?:{body})${ends_of_groups}": stands == (deep % 2 == 0)}
+                chosen = list(forms.items())
+                if deep > 4:
+                    chosen = [chosen[(len(rows) + deep) % len(chosen)]] if len(word) == 1 else []
+                rows += [[form, word, is_found] for form, is_found in chosen if "(?:c|" not in form or deep < 33]
+    yield searches(rows)
+
+
+# Classes as they stand in a row: which characters they have, some that they have, and some that they have not.
+LINKS = {
+    "a": (lambda c: c == "a", "a", "bé"),
+    "[a-c]": (lambda c: c in "abc", "abc", "dBä"),
+    ".": (lambda c: c not in "\n\r\u2028\u2029", "xä漢😀 ", "\n\u2028"),
+    "\\d": (lambda c: c in "0123456789", "059", "a٣"),
+    "[^x]": (lambda c: c != "x", "aä😀\n", "x"),
+    "\\p{L}": (lambda c: unicodedata.category(c)[0] == "L", "aä漢", "1😀"),
+    "\\S": (lambda c: c not in " \n\u3000\ufeff\u2028", "aä😀", " \u3000\ufeff"),
+    "[à-ö]": (lambda c: "à" <= c <= "ö", "àö", "a÷ß"),
+}
+# How often the one class may be read, and the greatest number that is asked where there is no bound.
+LINK_QUANTIFIERS = {"": (1, 1), "?": (0, 1), "{0,3}": (0, 3), "{2,5}": (2, 5), "{4}": (4, 4), "{3,}": (3, 12),
+                    "*": (0, 12), "+": (1, 12)}
+LINKS_BESIDE = [(), ("a",), ("[a-c]", "\\d")]
+
+
+def is_in_a_row(classes, low, high, at, text):
+    """Whether the text is one character of each class, that at this place `low` to `high` times."""
+    between = len(text) - len(classes) + 1
+    whole = [*classes[:at], *[classes[at]] * between, *classes[at + 1:]]
+    return low <= between <= high and all(LINKS[name][0](c) for name, c in zip(whole, text))
+
+
+def texts_in_a_row(classes, at, between):
+    """A text of a character of each class, so many of that at this place; and such texts with another at one place."""
+    names = [*classes[:at], *[classes[at]] * between, *classes[at + 1:]]
+    right = [LINKS[name][1][place % len(LINKS[name][1])] for place, name in enumerate(names)]
+    yield "".join(right)
+    for place in sorted({0, at, at + between - 1, at + between, len(names) - 1} & {*range(len(names))}):
+        for other in LINKS[names[place]][2]:
+            yield "".join([*right[:place], other, *right[place + 1:]])
+
+
+def row_of_classes_rows():
+    """Classes in a row between the ends of a text, of which one is counted or repeated."""
+    yield ("classes in a row between the ends of a text, one of them as often as each quantifier says: so many "
+           "characters as it may be and one off, each class with another's character at the ends of the parts, and "
+           "texts of one to four bytes a character (22.2.2.3)")
+    rows = []
+    for turn, (name, (quantifier, (low, high))) in enumerate(itertools.product(LINKS, LINK_QUANTIFIERS.items())):
+        sides = list(itertools.product(LINKS_BESIDE, repeat=2))
+        if name not in ("[a-c]", "."):
+            sides = [sides[turn % 9], sides[(turn + 4) % 9]]
+        for before, behind in sides:
+            classes = [*before, name, *behind]
+            pattern = f"^{''.join(before)}{name}{quantifier}{''.join(behind)}$"
+            for between in sorted({max(low - 1, 0), low, high, high + 1, 8 - len(classes)} & {*range(14)}):
+                if high == 12 and between > 12:
+                    continue
+                bound = 99 if high == 12 else high
+                rows += [[pattern, text, is_in_a_row(classes, low, bound, len(before), text)]
+                         for text in dict.fromkeys(texts_in_a_row(classes, len(before), between))]
+    yield searches(rows)
+    yield "the same without one of the two ends, with an end elsewhere, or with two that are counted"
+    rows = []
+    words = ("", "ab", "abcabcab", "xabcabcab", "abcabcabx", "äbcabcabc")
+    for text, (low, high) in itertools.product(words, ((0, 3), (2, 5), (1, 8))):
+        runs = [len(run) for run in re.findall("[a-c]*", text)]
+        lead = len(re.match("[a-c]*", text)[0])
+        tail = len(re.search("[a-c]*$", text)[0])
+        rows += [[f"[a-c]{{{low},{high}}}", text, max(runs) >= low], [f"^[a-c]{{{low},{high}}}", text, lead >= low],
+                 [f"[a-c]{{{low},{high}}}$", text, tail >= low],
+                 [f"^[a-c]{{{low},{high}}}|x$", text, lead >= low or text.endswith("x")],
+                 [f"^[a-c]{{{low},{high}}}[a-c]{{0,2}}$", text, lead == len(text) and low <= lead <= high + 2],
+                 [f"^[a-c]{{{low},{high}}}(?:abc)*$", text,
+                  any(text[size:] == "abc" * ((len(text) - size) // 3) for size in range(low, min(lead, high) + 1))],
+                 [f"^[a-c]{{{low},{high}}}$|^x", text,
+                  lead == len(text) and low <= lead <= high or text.startswith("x")]]
+    yield searches(rows)
+    yield "bounds of hundreds and thousands, at them and one off, with characters of one to four bytes"
+    rows = []
+    bounds = ((0, 250), (0, 1000), (1, 255), (255, 256), (1, 4096), (0, MOST_TIMES), (MOST_TIMES, MOST_TIMES))
+    for low, high in bounds:
+        for part in ("x", "ä", "漢", "😀"):
+            for size in sorted({max(low - 1, 0), low, high, high + 1}):
+                right = low <= size <= high
+                rows.append([[[f"^.{{{low},{high}}}$", 1]], [[part, size]], right])
+                rows += [[[[f"^.{{{low},{high}}}$", 1]], [[part, before], ["\n", 1], [part, size - before - 1]], False]
+                         for before in sorted({0, size // 2, size - 1}) if 0 < size]
+    for low, high in ((1, 300), (1, 2000)):
+        for size in (1, high, high + 1):
+            right = low <= size <= high
+            ascii_only, wide = [[f"^a[b-d]{{{low},{high}}}e$", 1]], [[f"^ä\\p{{L}}{{{low},{high}}}é$", 1]]
+            rows += [[ascii_only, [["a", 1], ["c", size], ["e", 1]], right],
+                     [ascii_only, [["a", 1], ["c", size], ["ë", 1]], False],
+                     [ascii_only, [["e", 1], ["c", size], ["e", 1]], False],
+                     [ascii_only, [["a", 1], ["c", size - 1], ["a", 1], ["e", 1]], False],
+                     [wide, [["ä", 1], ["ß", size], ["é", 1]], right],
+                     [wide, [["ä", 1], ["ß", size - 1], ["1", 1], ["é", 1]], False]]
+    yield long_searches(rows)
+
+
 def ecma_rows():
     """The rows of patterns of ECMA-262."""
     return rows_of(escape_rows, name_rows, class_rows, member_rows, look_rows, ahead_rows, limit_rows, property_rows,
@@ -4891,7 +6716,13 @@ def ecma_rows():
                    repeated_count_rows, never_rows, large_rows, placed_reason_rows, class_member_rows, set_pair_rows,
                    placed_term_rows, placed_piece_rows, reading_rows, reference_rows, edge_character_rows,
                    near_name_rows, far_number_rows, far_reason_rows, length_rows, off_name_rows, joined_edge_rows,
-                   deep_rows, front_within_rows, value_sign_rows, inner_loop_rows)
+                   deep_rows, front_within_rows, value_sign_rows, inner_loop_rows, inner_edge_rows, wrapped_rows,
+                   mixed_depth_rows, closed_kind_rows, half_pair_rows, pair_name_rows, text_end_rows, alike_rows,
+                   like_hexadecimal_rows, sign_code_rows, cluster_rows, passed_over_rows, notation_rows,
+                   other_class_rows, class_reason_rows, page_edge_rows, class_content_rows, language_word_rows,
+                   common_pattern_rows, long_literal_rows, far_text_rows, nested_look_rows, deep_quantifier_rows,
+                   count_end_rows, category_edge_rows, name_edge_rows, front_table_rows, name_sequence_rows,
+                   escape_pair_rows, depth_rows, row_of_classes_rows)
 
 
 # JSON: RFC 8259, as Python's json reads it, and as serde_json does a number out of the range of 64 bits (IEEE 754).
@@ -4929,8 +6760,44 @@ def numbers_of_json():
         yield f"{'-' * (place % 2)}{front}{exponent}"
 
 
+# The parts of a text of JSON, right and wrong ones.
+BLANKS = (["", " ", "\n", "\t\r\n "], ["\u00a0", "\ufeff", "\f", "/**/"])
+VALUES = (["null", "true", "false", "0", "-0", "-1", "1.5", "1e5", "-0.0E-0", "18446744073709551616", '""', '"a"',
+           '"\\u0041\\n"', '"\u00e9"', "[]", "{}", "[1]", '{"a":1}', "[[],{}]"],
+          ["", "nul", "True", "NaN", "-", "01", "1.", "+1", "1e400", "'a'", '"a', '"\\x"', '"\n"', "[", "}",
+           "[1,]", '{"a"}', "{a:1}"])
+KEYS = (['"a"', '""', '"a\\u0000"', '"\u00e9"', '"null"'], ["a", "1", "null", "[]", '"a', "'a'", '"a""b"'])
+
+
+def parts_of_json():
+    """Arrays of two and objects of two, with each choice of each part beside each of each other one."""
+    comma, colon = ([","], ["", ",,", ";", ":"]), ([":"], ["", "::", "=", ","])
+    yield from by_pairs([(["["], ["", "(", "[["]), BLANKS, VALUES, comma, BLANKS, VALUES, BLANKS,
+                         (["]"], ["", ")", "]]", "}"])], 1)
+    yield from by_pairs([(["{"], ["", "{{", "["]), BLANKS, KEYS, BLANKS, colon, VALUES, comma, KEYS,
+                         colon, BLANKS, VALUES, (["}"], ["", "}}", "]"])], 1)
+    yield from by_pairs([BLANKS, VALUES, BLANKS], 1)
+
+
+WORDS_OF_JSON = [('"{}"', 'a\\"u0/n', (3, 4)), ("{}", '[]{}:,"1', (3, 4)), ('{{"a":{}}}', '1,"a:}', (3, 4)),
+                 ("[{}]", "1,-. e0", (3, 4)), ("{}", "\n 1,[]", (3, 4)), ("1{}1", "eE+-.0", (1, 2, 3, 4)),
+                 ('"\\u{}"', "0aFgG", (3, 4, 5))]
+
+
 def json_rows():
     """The rows of JSON."""
+    yield from word_rows([("json", is_json, WORDS_OF_JSON)])
+    cased = ["".join(letters) for literal in ("true", "false", "null", "1e5")
+             for letters in itertools.product(*zip(literal, literal.upper()))]
+    yield texts("json", in_forms(("{}", "[{}]", '{{"a":{}}}', "\t{} "), cased), is_json)
+    yield from short_rows({"json": is_json})
+    parts = ["[],", "{},", '"a":1,', '{"a":', "1,", "[", "]", "}", " ", "null,", '"a",', ",", '\\"', "\\n", "0", "1"]
+    places = [["[", "1]"], ["{", '"b":1}'], ["", "1"], ["[1", "]"], ['"a', '"'], ["[[", "[]]]"], ["1.", "1"],
+              ["[1e", "1]"]]
+    yield repeated("json", parts, places, is_json)
+    yield texts("json", in_forms(("[{}]", '"{}"', '{{"a":{}}}'), words(SIGNS, (1, 2))), is_json)
+    yield "each choice of a part with each of each other part: white space, values, names, commas, colons and brackets"
+    yield texts("json", parts_of_json(), is_json)
     yield "numbers (section 6): words of what stands in them, and each form of an exponent"
     yield texts("json", words("01-+.e", (1, 2, 3, 4, 5)), is_json)
     numbers = list(numbers_of_json())

@@ -1433,6 +1433,100 @@ def other_standards_names():
             yield requested(7, {"contentMediaType": name}, "{:}")
 
 
+# Words of the names of formats, each with what others write for it.
+OTHER_WORDS = {
+    "date": ("dates", "day", "full-date", "dt"), "time": ("times", "clock", "full-time", "tm"),
+    "duration": ("durations", "period", "interval", "dur", "timespan"),
+    "hostname": ("hosts", "host", "host-name", "hostnames", "hosts-name", "domain", "dns-name", "server"),
+    "ipv4": ("ip-v4", "ipv-4", "ip-4", "ip-v-4", "ip_v4", "ip.v4", "v4", "ipv4s", "inet4", "ipv04"),
+    "ipv6": ("ip-v6", "ipv-6", "ip-6", "ip-v-6", "ip_v6", "ip.v6", "v6", "ipv6s", "inet6", "ipv06"),
+    "uri": ("uris", "url", "urn", "iri"), "iri": ("iris", "irl", "uri"),
+    "reference": ("references", "ref", "refs", "relative"), "template": ("templates", "tmpl", "tpl", "pattern"),
+    "uuid": ("uuids", "guid", "uid", "uu-id", "uuid-4"), "json": ("jsons", "jsn", "js"),
+    "pointer": ("pointers", "ptr", "path", "point"), "relative": ("rel", "relatives", "local"),
+}
+# What others put before a name or behind it.
+FRONTS = ("x-", "idn-", "json-", "iso-", "is-", "valid-", "format-", "format:", "$", "a", "std/", "rfc-", "i-",
+          "int-", "non-")
+TAILS = ("-string", "-format", "-text", "-value", "-draft4", "-v1", "2", ":", "/", "*", "?", "!", "-", "()", "-idn",
+         "-type")
+
+
+def names_spelt_otherwise():
+    """No draft has a format by a name in which a word stands otherwise, or words are joined otherwise."""
+    for name in FORMAT_NAMES:
+        words = [(word, *OTHER_WORDS[word]) for word in name.split("-")]
+        spelt = [joiner.join(them) for joiner in ("-", "", "_", ".", " ", ":", "/") for them in product(*words)]
+        spelt += ["".join(word.title() for word in them) for them in product(*words)]
+        spelt += ["-".join(them[::-1]) for them in product(*words)]
+        spelt += [front + "-".join(them) for front in FRONTS for them in product(*words)]
+        spelt += [name + tail for tail in TAILS]
+        for other in dict.fromkeys(spelt):
+            if other not in FORMAT_NAMES:
+                yield named(other)
+
+
+# Parts of names that are nearly those of encodings, of the media type and of keywords.
+BASES = ("base", "Base", "BASE", "base-", "base_", "base.", "base ", "b", "radix", "x-base", "rfc4648-base",
+         "bases", "")
+SIZES = ("16", "32", "64", "32hex", "64url", "32-hex", "64-url", "32HEX", "64URL", "32_hex", "64_url", "hex32", "url64",
+         "64u", "32h", "16hex", "64hex", "32url", "064", "6 4", "64-pad", "64nopad", "64std")
+MEDIA_FRONTS = ("application/", "Application/", "APPLICATION/", "text/", "app/", "*/", "x-application/",
+                "application/ ", "application /", "application", "/", "", "model/", "message/", "multipart/")
+MEDIA_TAILS = ("json", "JSON", "Json", "x-json", "json5", "jsonc", "json-seq", "+json", "a+json", "json+a", "vnd.json",
+               "json;", "json;a=b", "json; a=b", "json,", "json ", "*", "json/*", "jsons", "bson", "ndjson")
+LIMIT_WORDS = (("min", "minimum", "minimal", "Min", "least", "max", "maximum", "maximal", "Max", "most"),
+               ("Length", "length", "Len", "LENGTH", "Size", "Chars", "Characters", "Bytes", "CodePoints", "Lengths"))
+CONTENT_WORDS = (("content", "Content", "contents", "CONTENT", "media", "body", ""),
+                 ("Encoding", "encoding", "Encodings", "TransferEncoding", "MediaType", "mediaType", "MimeType", "Type",
+                  "Mediatype", "MediaTypes", "Schema", "schema", "Format", "Charset"))
+OTHER_KEYWORDS = ("formats", "Format", "FORMAT", "form", "formatMinimum", "patterns", "Pattern", "PATTERN", "regex",
+                  "regexp", "patternProperties", "$format", "$pattern", "x-format", "x-pattern", "string.format")
+
+
+def names_of_content_spelt_otherwise():
+    """Encodings and media types by names that nobody has are unknown, and check nothing."""
+    for name in dict.fromkeys(base + size for base in BASES for size in SIZES):
+        if name not in ENCODERS:
+            yield asked(7, {"contentEncoding": name}, ["!", "\u00e9=\n"])
+            yield asked(6, {"contentMediaType": JSON, "contentEncoding": name}, ["{:}"])
+    for name in dict.fromkeys(front + tail for front in MEDIA_FRONTS for tail in MEDIA_TAILS):
+        if name != JSON:
+            yield asked(7, {"contentMediaType": name}, ["{:}", "\u00e9"])
+
+
+def keywords_spelt_otherwise():
+    """Members by names that are nearly those of keywords are none, and add nothing."""
+    def spelt(words):
+        """The words joined in each way."""
+        return [joiner.join(cased(it) for it in them) for them in product(*words)
+                for joiner, cased in (("", str), ("-", str.lower), ("_", str.lower), (" ", str))]
+    for names, values in ((spelt(LIMIT_WORDS), (-1,)), (spelt(CONTENT_WORDS), ("base64", JSON)),
+                          (OTHER_KEYWORDS, ("date", "^b"))):
+        for name, value in product(dict.fromkeys(names), values):
+            if name not in KEYWORDS:
+                yield asked(7, {name: value, "maxLength": 3}, ["a{b", "abcd"])
+
+
+# Parts of patterns that are next to literal ones: what stands before, in the middle and behind.
+PATTERN_FRONTS = ("", "^", "^^", "(?:^)", r"\b", r"\A", "^ ", ".*^", "(?<=^)", "(?<!b)", "(?=a)")
+PATTERN_MIDDLES = ("a", ".*", ".+", ".", ".*a", "a.*", "(a)", "(?:a)", "(?:)", "()", "(?:)a", "[a]", "[^]", "[^]*",
+                   r"[\s\S]*", "[]", r"\d", r"\x61", r"\u0061", r"\t", r"\n", r"\0", r"\cA", "a{1}", "a{0}", "a{0,}",
+                   "a*", "a?", "a+", "a|b", "a|", "|", "(a|b)", "(?:a|b)", "(a|b|)", r"\S*", r"\S+", r"\S", r"\^a",
+                   r"\.a", r"a\$", "ab", "a b")
+PATTERN_TAILS = ("", "$", "$$", r"\b", r"\B", "(?=b)", r"\z", r"\Z", "$ ", ".*$", "|^b$")
+
+
+def patterns_next_to_literals():
+    """A pattern that is next to a literal one is shown to the builder as it stands."""
+    for parts in product(PATTERN_FRONTS, PATTERN_MIDDLES, PATTERN_TAILS):
+        if "" in parts[::2] or parts in product("^", PATTERN_MIDDLES, PATTERN_TAILS):
+            yield asked(7, {"pattern": "".join(parts)}, keyword="pattern")
+    for middle in PATTERN_MIDDLES:
+        for pattern in (middle, f"^{middle}", f"{middle}$", f"^{middle}$"):
+            yield asked(202012, {"pattern": pattern}, ["a", "b", "", "a.*"])
+
+
 # Objects that stand for a value in other programs and in other keywords.
 FOR_A_VALUE = tuple(map(parsed, (
     '{"$data":"0/x"}', '{"$data":"#/x"}', '{"$ref":"#/x"}', '{"const":2}', '{"value":2}', '{"name":"date"}',
@@ -2317,7 +2411,11 @@ SECTIONS = (
     ("folds told", folds_told), ("lines that share a schema", lines_that_share_a_schema), ("texts of a shared schema",
     texts_of_a_shared_schema), ("texts behind each front", texts_behind_each_front), ("lines told by their ends",
     lines_told_by_their_ends), ("others beside the keywords", others_beside), ("names one letter off in requests",
-    other_names_in_requests), ("names of other standards", other_standards_names), ("objects that stand for values",
+    other_names_in_requests), ("names of other standards", other_standards_names),
+    ("names of formats that are spelt otherwise", names_spelt_otherwise),
+    ("patterns next to literal ones", patterns_next_to_literals),
+    ("names of content that are spelt otherwise", names_of_content_spelt_otherwise),
+    ("keywords that are spelt otherwise", keywords_spelt_otherwise), ("objects that stand for values",
     objects_for_values), ("patterns of other languages", patterns_of_other_languages),
     ("left out, and refused elsewhere", refused_elsewhere), ("bytes that are encoded", decoded_bytes),
     ("places with each character", places_with_each_character), ("characters as they are shown", characters_shown),

@@ -11,6 +11,7 @@ with a plan is told, and what a place and an asterisk stand for in a document. N
 """
 import json
 import re
+import string
 import sys
 from itertools import combinations, product
 
@@ -54,6 +55,62 @@ WRONG_OWN = {"columns": {"empty": ("1", '"empty" at {} is not "skip"')},
 # Characters that stand by their code in base 16, of the categories Cc, Cf, Zl and Zp, and some that stand as they are.
 HIDDEN = ("\u0085", "\u00ad", "\u2028", "\u2029", "\u202e", "\U000e0001")
 SHOWN = ("\u00a0", "\u3000", "\ue000", "\u0378")
+# What is hidden, in ranges: the general categories Cc, Cf, Zl and Zp of Unicode.
+HIDDEN_RANGES = ((0, 0x1F), (0x7F, 0x9F), (0xAD, 0xAD), (0x600, 0x605), (0x61C, 0x61C), (0x6DD, 0x6DD), (0x70F, 0x70F),
+                 (0x890, 0x891), (0x8E2, 0x8E2), (0x180E, 0x180E), (0x200B, 0x200F), (0x2028, 0x202E), (0x2060, 0x2064),
+                 (0x2066, 0x206F), (0xFEFF, 0xFEFF), (0xFFF9, 0xFFFB), (0x110BD, 0x110BD), (0x110CD, 0x110CD),
+                 (0x13430, 0x1343F), (0x1BCA0, 0x1BCA3), (0x1D173, 0x1D17A), (0xE0001, 0xE0001), (0xE0020, 0xE007F))
+# Ranges that are told whole: what is hidden, what stands near it, marks, blanks, what is ignored by default, what is
+# for private use, and what is no character.
+TOLD_RANGES = ((0x00, 0x377), (0x483, 0x489), (0x591, 0x61F), (0x6D4, 0x6E0), (0x70D, 0x711), (0x7F0, 0x7FA),
+               (0x88F, 0x892), (0x8E0, 0x8E4), (0x115E, 0x1161), (0x1680, 0x1680), (0x17B3, 0x17B6), (0x180A, 0x1810),
+               (0x1AB0, 0x1AC0), (0x1DC0, 0x1DFF), (0x1FFD, 0x2071), (0x20D0, 0x20F0), (0x2428, 0x2429),
+               (0x27FF, 0x2801), (0x16FE4, 0x16FE4), (0x1D159, 0x1D159), (0x1D165, 0x1D169),
+               (0x2FF0, 0x3004), (0x3163, 0x3165), (0xA66F, 0xA672), (0xD7FB, 0xD7FB), (0xE000, 0xE001),
+               (0xF8FF, 0xF900), (0xFDCF, 0xFDF0), (0xFDFC, 0xFE13), (0xFE20, 0xFE30), (0xFEFC, 0xFF01),
+               (0xFF9F, 0xFFA1), (0xFFE8, 0x10001), (0x110BC, 0x110BE), (0x110CC, 0x110CD), (0x1342F, 0x13440),
+               (0x1BC9E, 0x1BCA3), (0x1D172, 0x1D17B), (0x1F1E6, 0x1F1FF), (0x1F3FB, 0x1F3FF), (0x1FFFE, 0x20000),
+               (0xE0000, 0xE0002), (0xE001F, 0xE0080), (0xE0100, 0xE01EF), (0xEFFFE, 0xF0000), (0xFFFFD, 0x100000),
+               (0x10FFFD, 0x10FFFF))
+# Names that another notation, another form of Unicode or a letter case takes for another of them, in families.
+ALIKE = (("", "a", "A", "a ", " a", "a\t", "a\n", "a\0", "a\0b", "\0a", "%61", "a%20", "a+", "a,", "a.b", "ab", "a/b",
+          "a~b", "a~1b", "a[0]", "$.a", "#a", "'a'", '"a"', "\\a", "\ufeffa", "a\u200b", "\u00ada", "a\u00a0",
+          "\uff41", "\u0430", "a-b", "a_b", "a b"),
+         ("\u00e4", "a\u0308", "\u00c4", "A\u0308", "a", "ae"), ("\u00e9", "e\u0301", "e", "\u00c9"),
+         ("\u212b", "\u00c5", "A\u030a", "\u00e5", "A"), ("\ufb01", "fi", "FI", "Fi"),
+         ("\u00df", "ss", "SS", "\u1e9e", "\u017fs"), ("i", "I", "\u0131", "\u0130", "i\u0307"), ("k", "K", "\u212a"),
+         ("s", "S", "\u017f"), ("\u03c3", "\u03c2", "\u03a3"), ("2", "02", "\u00b2", "\u0662", "2.0"),
+         ("\uac00", "\u1100\u1161"), ("\U00010428", "\U00010400"), ("\u01c6", "\u01c5", "d\u017e"),
+         ("\u0130", "I\u0307"),
+         ("**", "*a", "a*", "a", "?", "a?", "#", ".", "..", "$", "@", "[*]", "~*", "~0", "~", "/", "//", "~1", "~01"))
+# And each sign of ASCII before a name, behind it and about it.
+ALIKE += tuple(("a", sign + "a", "a" + sign, sign + "a" + sign) for sign in string.punctuation)
+# Tokens, of which some are indices of an array (RFC 6901, section 4), and the others lead to no element.
+INDICES = ("0", "1", "2", "-0", "-1", "-2", "+0", "+1", "00", "01", "0.0", "1.0", "1e0", "0x0", " 0", "0 ", "", "-",
+           "[0]", "first", "last", "length", "0\0", "4294967296", "18446744073709551616", "\u0660", "\u0661", "\uff10",
+           "\uff11", "\u00b9", "\u0967", "a")
+# Keywords that check nothing here, each with a value by which a text has an error, is right, or is another schema's.
+IGNORED = (("$ref", "#"), ("$ref", "#/definitions/a"), ("$recursiveRef", "#"), ("$dynamicRef", "#a"),
+           ("type", "integer"), ("type", "string"), ("type", ["null", "number"]), ("type", []), ("enum", ["y"]),
+           ("enum", ["xx"]), ("enum", []), ("const", "y"), ("const", "xx"), ("not", {}), ("not", False),
+           ("allOf", [{"maxLength": 9}]), ("allOf", []), ("anyOf", [True, {"maxLength": 0}]), ("oneOf", [True]),
+           ("if", True), ("then", False), ("else", True),
+           ("minimum", 9), ("maximum", 1), ("multipleOf", 2), ("exclusiveMinimum", True), ("required", ["y"]),
+           ("required", True), ("properties", {"a": {"maxLength": 0}}), ("patternProperties", {"": False}),
+           ("additionalProperties", False), ("propertyNames", False), ("dependencies", {"a": ["b"]}),
+           ("dependentSchemas", {"a": False}), ("items", {"maxLength": 0}), ("items", False), ("prefixItems", [False]),
+           ("additionalItems", False), ("contains", {"maxLength": 0}), ("minItems", 3), ("maxItems", 0),
+           ("uniqueItems", True), ("unevaluatedItems", False), ("unevaluatedProperties", False), ("$vocabulary", {}),
+           ("nullable", True), ("x-format", "ipv4"), ("disallow", "string"), ("extends", {}), ("divisibleBy", 2),
+           ("minlength", 9), ("formatMaximum", "x"), ("contentSchema", False), ("default", "xx"), ("examples", ["xx"]),
+           ("title", "date"), ("deprecated", True), ("readOnly", True), ("writeOnly", True), ("$comment", "maxLength"),
+           ("$id", "https://example.com/a"), ("id", "#a"), ("definitions", {"a": {"maxLength": 0}}),
+           ("$defs", {"a": {"maxLength": 0}}), ("$schema", "http://json-schema.org/draft-04/schema#"),
+           ("$schema", "https://json-schema.org/draft/2020-12/schema"))
+# Names to ignore that are those of everything else in a plan.
+OF_ALL = ("a", "/a", "b", "/b", "~1a", "/columns/a", "/places/~1a", "columns", "places", "draft", "ignore",
+          "duplicates", "delimiter", "limits", "record", "field", "document", "empty", "optional", "string", "format",
+          "maxLength", "pattern", "-1", "1", "no-format", "*", "", "/")
 
 
 # Words that are no value of `duplicates` or of `empty`, and names that are no own member, as another author has them.
@@ -166,8 +223,13 @@ def of_ignored(kind):
     place = json.loads(SCHEMAS[kind]).popitem()[0]
     at, passes = f"/{kind}/{escaped(place)}", "1 records, 0 errors" if kind == "columns" else "0 errors"
     for keyword, told in (("x-unit", f'unknown keyword "x-unit" at {at}'),
-                          ("enum", WRONG_MEMBERS["enum"][1].format(at))):
+                          ("enum", WRONG_MEMBERS["enum"][1].format(at)),
+                          ("$ref", WRONG_MEMBERS["enum"][1].replace("enum", "$ref").format(at))):
         names = [keyword[:-1] + "*", "*", keyword[:2], "^" + keyword[0], keyword.upper(), "/" + keyword, "", keyword]
+        names += [keyword[1:], keyword[:-1], keyword + "s", keyword.replace("-", "_"), keyword.replace("-", ""),
+                  keyword.title(), f'"{keyword}"', f"'{keyword}'", f"{keyword},zz", f"zz {keyword}", f"{keyword}|zz"]
+        signs = (" ", "\t", "\n", "\0", "\ufeff", "\u200b", "$", "x-", "#", ".", ":")
+        names += [front + keyword + tail for sign in signs for front, tail in ((sign, ""), ("", sign))]
         for ignored in ([*others, name] for name in names for others in ([], ["zz"])):
             members = f'"{kind}":{{"{place}":{{"{keyword}":[]}}}},"ignore":{json.dumps(ignored)}'
             yield [f'{{"plan":{{"draft":7,{members}}},{INPUTS[kind]}}}', passes if keyword in ignored else told]
@@ -403,6 +465,156 @@ def of_places_shown(c):
     yield of_text("places", {"places": {place + "/*": checks}}, {f"a{c}": 1}, f"{place}/*: missing", "1 errors")
 
 
+def with_codes(text):
+    """A text as messages show it, whatever it holds."""
+    return "".join(f"\\u{{{ord(c):x}}}" if any(first <= ord(c) <= last for first, last in HIDDEN_RANGES) else c
+                   for c in text)
+
+
+def row_of(plan, told, **given):
+    """The row of a plan of draft 7 with a file or a document, and what is told."""
+    plan = {"draft": 7, **plan}
+    return [json.dumps({"plan": plan, **given}, separators=(",", ":")), *map(with_codes, told)]
+
+
+def of_counts():
+    """The rows of limits that one text passes: of 1 alone it is a character, of all others characters."""
+    for limit in (0, 1, 2, 3, 10, 11, 12, 20, 21, 31, 99, 100, 101, 102, 111, 121, 200, 201, 999, 1000, 1001, 1011):
+        noun = "character" if limit == 1 else "characters"
+        long, short = "x" * (limit + 1), "y" * (limit - 1)
+        told = [f'/a: /maxLength: "{long}" is longer than {limit} {noun}']
+        told += [f'/b: /minLength: "{short}" is shorter than {limit} {noun}'] * (limit > 0)
+        places = {"/a": {"maxLength": limit}, "/b": {"minLength": limit}}
+        yield row_of({"places": places}, [*told, f"{len(told)} errors"], document={"a": long, "b": short})
+    for limit in (2 ** 31, 2 ** 32 - 1, 2 ** 32, 2 ** 32 + 1, 10 ** 18 + 1, 2 ** 63 - 1, 2 ** 63, 2 ** 63 + 1, MOST):
+        told = [f'/a: /minLength: "x" is shorter than {limit} characters', "1 errors"]
+        yield row_of({"places": {"/a": {"minLength": limit, "maxLength": limit}}}, told, document={"a": "x"})
+
+
+def of_ranges():
+    """The rows in which each character of the ranges stands in a name, as messages show it."""
+    ranges = [range(at, min(at + 127, last) + 1) for first, last in TOLD_RANGES for at in range(first, last + 1, 128)]
+    ranges += [range(0x378, 0xD800, 499), range(0xE002, 0x110000, 997)]
+    for codes in ranges:
+        name = "".join(map(chr, codes))
+        yield row_of({"columns": {"a": {}}, name: 1}, [f'unknown member "{name}" of the plan'], file="a\nb\n")
+        yield row_of({"columns": {"a": {}, name + "zz": {}}}, [f"the file has no column `{name}zz`"], file="a\nb\n")
+        told = f"/a: /maxLength: {json.dumps(name, ensure_ascii=False)} is longer than 0 characters"
+        yield row_of({"places": {"/a": {"maxLength": 0}}}, [told, "1 errors"], document={"a": name})
+
+
+# ---- names that are not the same
+
+def of_members_alike(names):
+    """The rows of a place for each of the names, in documents that have one of them, or all and one that is longer."""
+    places = {"/" + escaped(name): {"maxLength": 1, "optional": True} for name in names}
+    for name in names:
+        told = [f'/{escaped(name)}: /maxLength: "xx" is longer than 1 character', "1 errors"]
+        for document in ({name: "xx"}, {other: "xx" if other == name else "x" for other in names}):
+            yield row_of({"places": places}, told, document=document)
+    behind = {"/*" + place: schema for place, schema in places.items()}
+    for name in names:
+        told = [f'/b/{escaped(name)}: /maxLength: "xx" is longer than 1 character', "1 errors"]
+        yield row_of({"places": behind}, told, document={"b": {name: "xx"}})
+    told = [f'/{escaped(name)}: /maxLength: "xx" is longer than 1 character' for name in by_bytes(names)]
+    yield row_of({"places": {"/*": {"maxLength": 1}}}, [*told, f"{len(names)} errors"],
+                 document=dict.fromkeys(names, "xx"))
+
+
+def of_indices():
+    """The rows of places with each of the tokens, in arrays, texts and objects, that have one of them or more."""
+    places = {"/a/" + escaped(token): {"maxLength": 1, "optional": True} for token in INDICES}
+    documents = [{"a": value} for value in (["xx"], ["x"], ["x", "yy"], ["xx", "yy"], ["xx", "yy", "zz"], [], "xx", "x",
+                                            "", 0, [["xx"]], {"a": ["xx"]}, None, "0")]
+    documents += [{"a": {token: "xx"}} for token in INDICES] + [["xx", "yy"], {"a/0": "xx", "a.0": "yy", "a[0]": "zz"}]
+    for document in documents:
+        told = [it for place in by_bytes(places) for it in messages(place, places[place], document)]
+        yield row_of({"places": places}, [*told, f"{len(told)} errors"], document=document)
+
+
+def of_paths():
+    """The rows of places whose members are parted by other signs than a slash."""
+    places = {place: {"maxLength": 1, "optional": True} for place in (
+        "/a", "/a.b", "/a/b", "/a~1b", "/a b", "/a:b", "/a[b]", "/a['b']", "/$.a.b", "/a\\b", "/a/b/c", "/a.b.c",
+        "/a/b.c", "/a.b/c", "/.a", "/a.", "/a/", "/a//b", "//a", "/a/./b", "/a/../a")}
+    a_b = {"b": "xx"}
+    for document in ({"a": a_b}, {"a.b": "xx"}, {"a/b": "xx"}, {"a:b": "xx"}, {"a[b]": "xx"}, {"a": {"b": {"c": "xx"}}},
+                     {"a": {"b.c": "xx"}}, {"a.b": {"c": "xx"}}, {"a.b.c": "xx"}, {"a": {"": a_b}}, {"": {"a": "xx"}},
+                     {"a": {".": a_b}}, {"$": {"a": a_b}}, {"a": {"": "xx"}}, {".a": "xx", "a.": "yy"}, {"a\\b": "xx"},
+                     {"a": {"..": {"a": "xx"}}}, {"b": "xx"}, {"a": [a_b]}, {"a": {"0": a_b}}):
+        told = [it for place in by_bytes(places) for it in messages(place, places[place], document)]
+        yield row_of({"places": places}, [*told, f"{len(told)} errors"], document=document)
+
+
+def of_columns_alike(names):
+    """The rows of columns with each of the names: each is a column by itself, and no other stands for it."""
+    def record(fields):
+        return ",".join('"' + it.replace('"', '""') + '"' for it in fields) + "\n"
+    line = 2 + "".join(names).count("\n")
+    for own in ({}, {"duplicates": "each"}):
+        columns = {name: {"maxLength": 1} for name in names}
+        told = [f'{line}: {name}: /maxLength: "xx" is longer than 1 character' for name in names]
+        text = record(names) + record(["xx"] * len(names))
+        yield row_of({"columns": columns, **own}, [*told, f"1 records, {len(told)} errors"], file=text)
+    for at, name in enumerate(names):
+        plan, others = {"columns": {name: {"maxLength": 1}}}, [other for other in names if other != name]
+        yield row_of(plan, [f"the file has no column `{name}`"], file=record(others))
+        yield row_of(plan, [f"the column `{name}` stands twice in the first record: at {at + 1} and {len(names) + 1}"],
+                     file=record([*names, name]))
+        text = record(names) + record("xx" if other == name else "yy" for other in names)
+        yield row_of(plan, [f'{line}: {name}: /maxLength: "xx" is longer than 1 character', "1 records, 1 errors"],
+                     file=text)
+
+
+def of_numbers():
+    """The rows of columns of a file without a header: their names are 1, 2 and 3, and no other way to write these."""
+    for name in (*INDICES, "3", "4", "03", "3 ", " 3", "\t3", "3\0", "\u0663", "\uff13", "\u00b3", "$3", "#3",
+                 "column3", "c", "C", "iii"):
+        is_there, most = name in ("1", "2", "3"), {"columns": {name: {"maxLength": 1}}}
+        told = [f'1: {name}: /maxLength: "xx" is longer than 1 character', "1 records, 1 errors"]
+        if not is_there:
+            told = [f"the file has no column `{name}`"]
+        fields = ",".join("xx" if name == number or not is_there else "y" for number in "123")
+        yield row_of(most, told, header=False, file=fields + "\n")
+        yield row_of({"columns": {"2": {}, **most["columns"]}}, told, header=False, file=fields + "\n")
+
+
+# ---- names to ignore
+
+def of_ignored_beside():
+    """The rows of keywords that are ignored, in each draft, beside a limit and a format, which are checked all the
+    same."""
+    told = ('/format: "xx" is not a "date"', '/maxLength: "xx" is longer than 1 character')
+    for draft, (keyword, value) in product((4, 6, 7, 201909, 202012), IGNORED):
+        schema = {keyword: value, "maxLength": 1, "format": "date"}
+        yield row_of({"draft": draft, "columns": {"a": schema}, "ignore": [keyword]},
+                     [*(f"2: a: {it}" for it in told), "1 records, 2 errors"], file="a\nxx\n")
+        yield row_of({"draft": draft, "places": {"/a": schema}, "ignore": [keyword]},
+                     [*(f"/a: {it}" for it in told), "2 errors"], document={"a": "xx"})
+    for draft, kind in product((4, 6, 7, 201909, 202012), MEMBERS):
+        schema = {**dict(IGNORED), "maxLength": 1, "format": "date"}
+        name, at = ("a", "2: a") if kind == "columns" else ("/a", "/a")
+        given = {"file": "a\nxx\n"} if kind == "columns" else {"document": {"a": "xx"}}
+        ends = "1 records, 2 errors" if kind == "columns" else "2 errors"
+        yield row_of({"draft": draft, kind: {name: schema}, "ignore": [*dict(IGNORED)]},
+                     [*(f"{at}: {it}" for it in told), ends], **given)
+
+
+def of_ignored_elsewhere(kind):
+    """The rows of everything that may be wrong with a plan, where `ignore` has the names of all but keywords."""
+    for _, member, value, told in faults(kind):
+        if member != "ignore" and '{"zz":1}}' not in str(value):
+            members = {"draft": "7", kind: SCHEMAS[kind], member: value, "ignore": json.dumps(OF_ALL)}
+            text = ",".join(f'"{name}":{it}' for name, it in members.items() if it is not None)
+            yield [f'{{"plan":{{{text}}},{INPUTS[kind]}}}', told]
+    place = json.loads(SCHEMAS[kind]).popitem()[0]
+    for value in ("null", "true", "[]", '"x"', "0"):
+        for names in ([place], [f"/{kind}/{escaped(place)}"], [kind], OF_ALL):
+            members = f'"{kind}":{{"{place}":{value}}},"ignore":{json.dumps(names)}'
+            yield [f'{{"plan":{{"draft":7,{members}}},{INPUTS[kind]}}}',
+                   f"the schema at /{kind}/{escaped(place)} is no object"]
+
+
 # ---- the rows
 
 def lines():
@@ -438,6 +650,24 @@ def lines():
     made += [line for kind in MEMBERS for row in of_names(kind) for line in row]
     made.append("# characters that do not show as themselves, and some that do, in each text of faults and messages")
     made += [line for c in HIDDEN + SHOWN for row in (*of_columns_shown(c), *of_places_shown(c)) for line in row]
+    made.append("# limits in messages, of which 1 alone is of one character")
+    made += [line for row in of_counts() for line in row]
+    made.append("# characters of whole ranges in names, as messages show them")
+    made += [line for row in of_ranges() for line in row]
+    made.append("# names that another notation, form of Unicode or letter case takes for one another, as members")
+    made += [line for names in ALIKE for row in of_members_alike(names) for line in row]
+    made.append("# tokens that are indices, and others that are none")
+    made += [line for row in of_indices() for line in row]
+    made.append("# members that are parted by a slash, and by other signs")
+    made += [line for row in of_paths() for line in row]
+    made.append("# names that another notation, form of Unicode or letter case takes for one another, of columns")
+    made += [line for names in ALIKE for row in of_columns_alike(names) for line in row]
+    made.append("# the names of columns without a header, and other ways to write them")
+    made += [line for row in of_numbers() for line in row]
+    made.append("# keywords that are ignored beside others, in each draft")
+    made += [line for row in of_ignored_beside() for line in row]
+    made.append("# names to ignore that are those of everything else in a plan")
+    made += [line for kind in MEMBERS for row in of_ignored_elsewhere(kind) for line in row]
     made += file_rows.lines()
     made.append("# places of each form in documents of each kind, with the members that are the plan's own")
     for number, place in enumerate(PLACES):

@@ -43,7 +43,18 @@ ANNOTATIONS = {"title", "description", "default", "examples", "$comment", "$sche
 OTHERS = ("divisibleBy", "extends", "disallow", "links", "media", "base", "fragmentResolution", "pathStart",
           "binaryEncoding", "mediaType", "targetSchema", "submissionSchema", "nullable", "discriminator", "xml",
           "externalDocs", "example", "formatMinimum", "formatMaximum", "formatExclusiveMaximum", "$data", "$merge",
-          "$patch", "switch", "constant", "errorMessage", "transform", "regexp", "instanceof", "contentSize", "x", "")
+          "$patch", "switch", "constant", "errorMessage", "transform", "regexp", "instanceof", "contentSize", "x", "",
+          "propertyDependencies", "optional", "requires", "minimumCanEqual", "maximumCanEqual", "maxDecimal",
+          "identity", "unique", "options", "elements", "optionalProperties", "values", "mapping", "metadata", "ref",
+          "typeof", "uniqueItemProperties", "range", "exclusiveRange", "select", "patternRequired", "prohibited",
+          "allRequired", "deepProperties", "dynamicDefaults", "deprecationMessage", "enumNames", "tsType", "comment",
+          "formatExclusiveMinimum", "contentLanguage", "language", "minBytes", "maxBytes", "length", "isNotEmpty",
+          "_comment", "__note", "//", "// note", "#note", "$note", "@type", "@context", "$async", "ajv", "isRequired",
+          "tsEnumNames", "markdownDescription", "defaultSnippets", "allowComments", "meta:enum", "X-unit", "xunit",
+          "x_unit", "x.unit", "vendor:unit", "com.example.unit", "unit", "ui:widget", "faker", "$$target", "note",
+          "notes", "remark", "label", "doc", "summary", "since", "version", "hidden", "order", "tags", "internal",
+          "javaType", "enumDescriptions", "errorMessages", "-unit", "+unit", "~unit", "?unit", "unit?", "*", " ",
+          "\u00e9", "\U0001f4a9")
 # Two keywords, of which the first stands before the other in docs/DECISIONS.md or in Validation, and names near both.
 TIES = (("minLength", "maxLength", "manLength", "mixLength"), ("maximum", "minimum", "manimum", "miximum"),
         ("exclusiveMaximum", "exclusiveMinimum", "exclusiveManimum", "exclusiveMiximum"),
