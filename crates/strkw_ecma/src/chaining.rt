@@ -189,7 +189,7 @@ fn parts_of(alloc: Global, instructions: &[Instruction]) -> Result<Option<Parts>
 }
 
 // The table of a class.
-fn table_of(class: &Class) -> ClassTable
+fn class_table(class: &Class) -> ClassTable
     ensures { IsTableOf (Some class.now) result }
 {
     let mut table = [false; 256];
@@ -205,7 +205,7 @@ fn tables_of(alloc: Global, classes: &[Class]) -> Result<Vec<ClassTable>, AllocE
 {
     let mut tables = Vec::new(alloc);
     for class in classes {
-        tables.push(table_of(class))?;
+        tables.push(class_table(class))?;
     }
     Ok(tables)
 }

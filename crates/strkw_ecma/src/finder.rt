@@ -54,8 +54,8 @@ impl Finder {
     {
         let needed = outline.needed_byte();
         let program = Program::of(alloc, outline)?;
-        let table = table_of(alloc, &program)?;
         let chain = Chain::of(alloc, &program.code)?;
+        let table = table_of(alloc, &program, chain.is_some())?;
         Ok(Finder {
             program,
             table,

@@ -229,8 +229,13 @@ fn table_if_right(sampled: Sampled, draft: Draft, program: &Program) -> Option<T
     })
 }
 
-/// The table of a pattern, where it has few enough states and columns.
-pub(crate) fn table_of(alloc: Global, program: &Program) -> Result<Option<Table>, AllocError>
+/// The table of a pattern, where it has few enough states and columns. A chain has a state before its classes and one
+/// behind each, so that it is known at once where it has too many.
+pub(crate) fn table_of(
+    alloc: Global,
+    program: &Program,
+    is_chain: bool,
+) -> Result<Option<Table>, AllocError>
     requires clean { is_clean (pattern_of program.now) ≡ true }
     ensures { IfOk result (λ made.
         MatchOption made Unit (λ t. IsSearchedBy t (pattern_of program.now))) }
@@ -242,12 +247,15 @@ pub(crate) fn table_of(alloc: Global, program: &Program) -> Result<Option<Table>
     if end > MOST_COLUMNS {
         return Ok(None);
     }
+    let most_rows = most_rows(program, end + 1);
+    if is_chain && program.marks >= most_rows {
+        return Ok(None);
+    }
     let mut draft = Draft {
         states: Vec::new(alloc),
         entries: Vec::new(alloc),
     };
     draft.states.push(State::first(alloc, program.marks)?)?;
-    let most_rows = most_rows(program, end + 1);
     if !draft.add_rows(alloc, program, &sampled.samples, most_rows)? {
         return Ok(None);
     }

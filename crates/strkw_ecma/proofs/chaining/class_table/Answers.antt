@@ -2,7 +2,7 @@ use Rattle.std.proofs.Common.{ℕ, List, Some, false, get_or, set, length-set, a
 use Rattle.strkw_ecma.specs.Tree.{is_member}
 use Rattle.strkw_ecma.specs.declared.tree.CharSet.{CharSet}
 use Rattle.strkw_ecma.proofs.Chained.{one_answer}
-use Rattle.strkw_ecma.proofs.chaining.table_of.Goals as goal
+use Rattle.strkw_ecma.proofs.chaining.class_table.Goals as goal
 
 pub loop-byte-preserved : goal.loop-byte-preserved
 loop-byte-preserved c =

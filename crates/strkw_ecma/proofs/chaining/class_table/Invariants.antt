@@ -1,6 +1,6 @@
 use Rattle.std.proofs.Common.{◌≡◌, ◌<◌, ℕ, Some, false, get_or, length}
 use Rattle.strkw_ecma.specs.machine.Machine.{class_reads}
-use Rattle.strkw_ecma.proofs.chaining.table_of.Given as goal
+use Rattle.strkw_ecma.proofs.chaining.class_table.Given as goal
 
 abbrev pub invariant-loop-byte : goal.invariant-loop-byte
 invariant-loop-byte l = record {
