@@ -26,6 +26,12 @@ BEHIND_QUOTES = (" ", "  ", "\t", " x", "x ", "x", ' "', ' "x"', 'x"y"', "'", "\
                  "\u00c2\u00a0", "\u00ff", "\u00e2\u0080\u008b")
 # Line ends in front of a quote that stays open, of which each LF, CR LF and CR alone is one.
 ENDS = ("\n", "\r", "\r\n")
+# What others write where there is nothing, and what shows as nothing: none of it is an empty field.
+NOTHING = ("null", "NULL", "Null", "nil", "None", "undefined", "NA", "N/A", "n/a", "NaN", "nan", "#N/A", "#NULL!", "-",
+           "--", "?", ".", "..", "...", "*", "_", "0", "00", "0.0", "false", "FALSE", "no", "none", "empty", "EMPTY",
+           "skip", "blank", "missing", "unknown", "\\N", "\\", "\\0", "''", "``", "{}", "[]", "()", "<null>", "(null)",
+           "(none)", " ", "  ", "\t", "\t ", "\u00c2\u00a0", "\u00e3\u0080\u0080", "\u00e2\u0080\u008b",
+           "\u00ef\u00bb\u00bf", "\u00e2\u0080\u0094", "=", "=\"\"", "'")
 # A byte order mark, one byte a character.
 MARK = "\u00ef\u00bb\u00bf"
 
@@ -245,6 +251,17 @@ def behind_quotes():
         yield of_file({"columns": {"a": {}}, "duplicates": "each"}, f"a,{quoted}{behind},b\nx,y,z\n,\n")
 
 
+def nothing():
+    """Words for nothing in a column that passes over its empty fields and in one that does not, with quotes too."""
+    skips = {"empty": "skip"}
+    for schema, header in product(({"maxLength": 0, **skips}, {"maxLength": 0}, {"minLength": 9, **skips}),
+                                  (True, False)):
+        plan = {"columns": {"a" if header else "1": schema}}
+        fields = [word if '"' in word else f'"{word}"' for word in NOTHING] + list(NOTHING) + ["", '""']
+        text = ("a,b\n" if header else "") + "".join(f"{field},x\n" for field in fields)
+        yield of_file(plan, text, **({} if header else {"header": False}))
+
+
 def bytes_in_fields():
     """Each byte but a quote in fields, at their ends and alone, with quotes and without."""
     columns = {"columns": {"a": {"maxLength": 0}, "b": {"maxLength": 0}}}
@@ -274,6 +291,8 @@ def lines():
     made += [line for row in marked() for line in row]
     made.append("# each byte but a quote in fields and at their ends, with quotes and without")
     made += [line for row in bytes_in_fields() for line in row]
+    made.append("# what others write for nothing is a text, also in a column that passes over its empty fields")
+    made += [line for row in nothing() for line in row]
     made.append("# what stands behind a closing quote, and before an opening one, belongs to the field")
     made += [line for row in behind_quotes() for line in row]
     made.append("# line ends of each kind in quotes, side by side and apart, before the first record and behind it")

@@ -403,6 +403,23 @@ def of_names(kind):
                 yield of_near(kind, name, told, table[kind], **named(name))
 
 
+def of_signs(kind):
+    """The rows of names that differ from members, limits and keywords in a character past ASCII, which is one edit, or
+    in two of these, which are two."""
+    place = json.loads(SCHEMAS[kind]).popitem()[0]
+    for names, told, named in (
+            (MEMBERS[kind], 'unknown member "{}" of the plan', lambda name: {name: "1"}),
+            (LIMITS[kind], 'unknown limit "{}" of the plan', lambda name: {"limits": f'{{"{name}":1}}'}),
+            ((*OWN[kind], "format", "maxLength"), f'unknown keyword "{{}}" at /{kind}/{escaped(place)}',
+             lambda name: {kind: f'{{"{place}":{{"{name}":true}}}}'})):
+        for other, sign in product(names, ("\u00e9", "\u200b", "\U0001f600")):
+            half = len(other) // 2
+            for name in (sign + other, other[:half] + sign + other[half + 1:], other[:-1] + sign,
+                         sign + other[1:] + sign, other[:half] + sign + sign + other[half:]):
+                text, *lines = of_near(kind, name, told, names, **named(name))
+                yield [text, *map(with_codes, lines)]
+
+
 # ---- texts that messages show
 
 def shown(text):
@@ -579,6 +596,51 @@ def of_numbers():
         yield row_of({"columns": {"2": {}, **most["columns"]}}, told, header=False, file=fields + "\n")
 
 
+def of_tens():
+    """The rows of more than ten elements, members and columns: elements come by their numbers, and names, be they
+    numbers, by their bytes."""
+    numbers = [str(number) for number in (*range(13), 20, 100, 101)]
+    for document in (["xx"] * 13, dict.fromkeys(reversed(numbers), "xx"), {"a": ["xx"] * 12, "b": [["xx"] * 11]},
+                     dict.fromkeys(("01", "1", "10", "1e1", "-1", "+1", "1.0", "\u0661", "\uff11", "a10", "a9"), "xx"),
+                     [[["xx"] * 3] * 3] * 3, {"a": {"a": {"a": {"a": {"a": "xx"}}}}}, [{"a": "xx"}] * 3,
+                     [["xx", 1, "yy"]]):
+        for place in ("/*", "/*/*", "/*/*/*", "/*/*/*/*/*", "/a/*", "/b/*/*", "/*/a", "/10", "/*/10", "/b/0/10"):
+            for own in ({}, {"optional": True}, {"string": True}):
+                yield of_place(place, own, document)
+    for first, second in combinations(("/a/*", "/*/0", "/a/0", "/*/*", "/a", "/*", ""), 2):
+        for document in ({"a": ["xx"]}, {"a": "xx"}, ["xx"], "xx"):
+            told = [line for place in by_bytes((first, second)) for line in messages(place, {}, document)]
+            schemas = ",".join(f'"{place}":{{"maxLength":1}}' for place in (second, first))
+            yield [f'{{"plan":{{"draft":7,"places":{{{schemas}}}}},"document":{json.dumps(document)}}}', *told,
+                   f"{len(told)} errors"]
+    for number, name in product((9, 10, 11), ("9", "10", "11", "12", "100", "2")):
+        asked = {"9": {}, "10": {}, "11": {}, name: {"maxLength": 1}}
+        missing = [name for name in sorted(asked) if int(name) > number]
+        told = [f"the file has no column `{missing[0]}`"] if missing else [
+            f'1: {name}: /maxLength: "xx" is longer than 1 character', "1 records, 1 errors"]
+        yield row_of({"columns": asked}, told, header=False, file=",".join(["xx"] * number) + "\n")
+    for count in (3, 4, 5):
+        told = [f'{line}: a: /maxLength: "xx" is longer than 1 character' for line in (2, 3) for _ in range(count)]
+        told.append(f"2 records, {2 * count} errors")
+        yield row_of({"columns": {"a": {"maxLength": 1}}, "duplicates": "each"}, told,
+                     file=",".join("a" * count) + ",b\n" + 2 * (",".join(["xx"] * count) + ",zz\n"))
+
+
+def of_line_ends():
+    """The rows of line ends of each kind in a field that is checked: each character of them counts."""
+    for parts in product(("\r", "\n", "x"), repeat=3):
+        field = "".join(parts)
+        for most in range(4):
+            line = 2 + len(re.findall("\r\n|\r|\n", field)) + 1
+            noun = "character" if most == 1 else "characters"
+            shown = field.replace("\r", "\\r").replace("\n", "\\n")
+            told = [f'2: a: /maxLength: "{shown}" is longer than {most} {noun}'] if most < 3 else []
+            told.append(f'{line}: a: /maxLength: "zzzz" is longer than {most} {noun}')
+            told.append(f"2 records, {len(told)} errors")
+            yield row_of({"columns": {"a": {"maxLength": most, "empty": "skip"}}}, told,
+                         file=f'a,b\n"{field}",x\nzzzz,x\n')
+
+
 # ---- names to ignore
 
 def of_ignored_beside():
@@ -648,6 +710,8 @@ def lines():
     made += [line for kind in MEMBERS for row in of_two(kind) for line in row]
     made.append("# names one edit away from members, limits and own members, also from those of the other kind of plan")
     made += [line for kind in MEMBERS for row in of_names(kind) for line in row]
+    made.append("# names that differ from these in characters past ASCII, of which each is one edit")
+    made += [line for kind in MEMBERS for row in of_signs(kind) for line in row]
     made.append("# characters that do not show as themselves, and some that do, in each text of faults and messages")
     made += [line for c in HIDDEN + SHOWN for row in (*of_columns_shown(c), *of_places_shown(c)) for line in row]
     made.append("# limits in messages, of which 1 alone is of one character")
@@ -664,6 +728,10 @@ def lines():
     made += [line for names in ALIKE for row in of_columns_alike(names) for line in row]
     made.append("# the names of columns without a header, and other ways to write them")
     made += [line for row in of_numbers() for line in row]
+    made.append("# more than ten elements, members and columns, and places that stand for one value")
+    made += [line for row in of_tens() for line in row]
+    made.append("# line ends of each kind in a field that is checked")
+    made += [line for row in of_line_ends() for line in row]
     made.append("# keywords that are ignored beside others, in each draft")
     made += [line for row in of_ignored_beside() for line in row]
     made.append("# names to ignore that are those of everything else in a plan")
