@@ -220,6 +220,22 @@ static const struct {
         " hostname hostname_draft4 iri_reference uri_reference uri_template base64 base64url json "
         "idn_hostname regex "},
     {"/a?b#c", " iri_reference json_pointer uri_reference uri_template regex "},
+    {"/a/", " iri_reference json_pointer uri_reference uri_template regex "},
+    {"/a/i", " iri_reference json_pointer uri_reference uri_template base64 regex "},
+    {"/(/", " iri_reference json_pointer uri_reference uri_template "},
+    {"\"a\"", " json regex "},
+    {"'a'", " iri_reference uri_reference uri_template regex "},
+    {"<a@b.c>", " regex "},
+    {"<http://a/>", " regex "},
+    {"%31%39%32.0.2.1", " iri_reference uri_reference uri_template regex "},
+    {"2024%2D02%2D29", " iri_reference uri_reference uri_template regex "},
+    {"{f81d4fae-7dec-11d0-a765-00a0c91e6bf6}", " "},
+    {"urn:uuid:f81d4fae-7dec-11d0-a765-00a0c91e6bf6", " iri iri_reference uri uri_reference uri_template regex "},
+    {"[::1]", " uri_template regex "},
+    {"www.example.com.", " iri_reference uri_reference uri_template regex "},
+    {"a.b@example.com.", " iri_reference uri_reference uri_template regex "},
+    {"Zm9v\nYmFy", " regex "},
+    {"Zm9v YmFy", " regex "},
 };
 
 /* Whether a function is among those that say yes. */
@@ -244,6 +260,61 @@ static void call_kinds(void) {
     }
 }
 
+/* What ends a text for others, or is passed over around it: a zero byte alone and with a letter behind it, blanks and
+   ends of lines, U+FEFF, U+00A0, and a byte that is no UTF-8. Behind each stand how JSON writes it, and the functions
+   that say yes of their right text with it in front and with it behind: a pattern may have any character (ECMA-262), a
+   JSON pointer too (RFC 6901), JSON has blanks around it (RFC 8259), and both characters past ASCII stand in an IRI
+   (RFC 3987), in a template (RFC 6570) and in a local part (RFC 6531). */
+static const struct {
+    const char *sign;
+    size_t count;
+    const char *shown, *before, *behind;
+} signs[] = {
+    {"\0", 1, "\\u0000", " regex ", " json_pointer relative_json_pointer regex "},
+    {"\0a", 2, "\\u0000a", " regex ", " json_pointer relative_json_pointer regex "},
+    {"\n", 1, "\\n", " json regex ", " json json_pointer relative_json_pointer regex "},
+    {"\r\n", 2, "\\r\\n", " json regex ", " json json_pointer relative_json_pointer regex "},
+    {" ", 1, " ", " json regex ", " json json_pointer relative_json_pointer regex "},
+    {"\t", 1, "\\t", " json regex ", " json json_pointer relative_json_pointer regex "},
+    {"\f", 1, "\\f", " regex ", " json_pointer relative_json_pointer regex "},
+    {"\177", 1, "\177", " regex ", " json_pointer relative_json_pointer regex "},
+    {"\357\273\277", 3, "\357\273\277", " iri_reference uri_template idn_email regex ",
+        " iri iri_reference json_pointer relative_json_pointer uri_template regex "},
+    {"\302\240", 2, "\302\240", " iri_reference uri_template idn_email regex ",
+        " iri iri_reference json_pointer relative_json_pointer uri_template regex "},
+    {"\377", 1, NULL, " ", " "},
+};
+enum { SIGNS = sizeof signs / sizeof *signs, LONGEST = 200 };
+
+/* A text with a sign in front or behind, and its count of bytes. */
+static size_t signed_text(char *out, const char *text, size_t sign, bool is_behind) {
+    const size_t count = strlen(text), more = signs[sign].count;
+    memcpy(out + (is_behind ? 0 : more), text, count);
+    memcpy(out + (is_behind ? count : 0), signs[sign].sign, more);
+    return count + more;
+}
+
+static void call_signs(void) {
+    char text[LONGEST];
+    for (size_t place = 0; place < 2 * SIGNS; place++) {
+        const size_t sign = place / 2;
+        const bool is_behind = place % 2 == 1;
+        const char *yes = is_behind ? signs[sign].behind : signs[sign].before;
+        for (size_t i = 0; i < sizeof formats / sizeof *formats; i++) {
+            const size_t count = signed_text(text, formats[i].right, sign, is_behind);
+            const bool is_right = says_yes(yes, formats[i].name);
+            row(formats[i].name, is_right ? "right" : "wrong", "its right text with a sign at an end",
+                formats[i].check(bytes_of(text, count), count) == is_right);
+        }
+        for (size_t i = 0; i < sizeof decisions / sizeof *decisions; i++) {
+            const size_t count = signed_text(text, decisions[i].right, sign, is_behind);
+            const bool is_right = says_yes(yes, decisions[i].name);
+            row(decisions[i].name, is_right ? "right" : "wrong", "its right text with a sign at an end",
+                decisions[i].check(bytes_of(text, count), count) == is_right);
+        }
+    }
+}
+
 /* strkw_answer on these requests, with room for so many bytes: what it answers, the count, and the bytes. */
 static bool answers(const char *requests, size_t room, uint8_t status, size_t count, const char *wanted) {
     uint8_t *out = room_of(room);
@@ -261,6 +332,23 @@ static void call_answer(void) {
     row("answer", "right", "no request", answers("", 0, STRKW_DONE, 0, NULL));
     row("answer", "wrong", "a line that is no request", answers("{}\n", 20, STRKW_DONE, 16, "bad request\nend\n"));
     row("answer", "refused", "too little room", answers("{}\n", 15, STRKW_NO_ROOM, 16, NULL));
+    /* Only a line feed ends a line, and the last line may have none: a zero byte stands in one as others do. */
+    static const char lines[] = "{\"draft\":7,\"schema\":{},\"instance\":0}\n"
+                                "{\"draft\":7,\"schema\":{},\"instance\":0}\0\n\0\n"
+                                "{\"draft\":7,\"schema\":{},\"instance\":0}";
+    static const char *told = "valid\nend\nbad request\nend\nbad request\nend\nvalid\nend\n";
+    uint8_t *lines_out = room_of(strlen(told));
+    size_t lines_written = 77;
+    row("answer", "right", "zero bytes in lines, and a last line without a line feed",
+        strkw_answer(bytes_of(lines, sizeof lines - 1), sizeof lines - 1, lines_out, strlen(told), &lines_written)
+                == STRKW_DONE
+            && lines_written == strlen(told) && memcmp(lines_out, told, lines_written) == 0);
+    row("answer", "wrong", "a last line that is no request", answers("{}", 16, STRKW_DONE, 16, "bad request\nend\n"));
+    row("answer", "wrong", "an empty line", answers("\n", 16, STRKW_DONE, 16, "bad request\nend\n"));
+    row("answer", "wrong", "blanks without a line feed", answers(" ", 16, STRKW_DONE, 16, "bad request\nend\n"));
+    row("answer", "refused", "no room at all", answers("{}\n", 0, STRKW_NO_ROOM, 16, NULL));
+    row("answer", "refused", "no room at all by NULL",
+        strkw_answer(text_of("{}\n"), 3, NULL, 0, &lines_written) == STRKW_NO_ROOM && lines_written == 16);
     row("answer", "refused", "NULL and a count", strkw_answer(NULL, 3, out, 8, &written) == STRKW_NULL);
     row("answer", "refused", "no room", strkw_answer(text_of("{}"), 2, NULL, 8, &written) == STRKW_NULL);
     row("answer", "refused", "no count", strkw_answer(text_of("{}"), 2, out, 8, NULL) == STRKW_NULL);
@@ -668,6 +756,92 @@ static void call_options(void) {
                 row("check", verdict == 1 ? "right" : "wrong", known[k].schema,
                     all_answer(drafts[d], options, known[k].schema, status, verdict));
             }
+}
+
+/* Whether each function that takes a schema object has this status for these bytes. */
+static bool all_say(const char *schema, size_t count, uint8_t status) {
+    static const size_t ends[] = {1}, wide[] = {0, 1};
+    static const uint32_t narrow[] = {0, 1};
+    const uint8_t *object = bytes_of(schema, count), *text = text_of("a");
+    uint8_t verdict = 7, out[LONGEST];
+    size_t written = 77;
+    strkw_schema *made = NULL;
+    bool holds = strkw_check(7, 0, object, count, text, 1, ends, 1, &verdict, 1) == status
+        && strkw_check_offsets(7, 0, object, count, text, 1, wide, 2, &verdict, 1) == status
+        && strkw_check_offsets32(7, 0, object, count, text, 1, narrow, 2, &verdict, 1) == status
+        && strkw_refusal(7, 0, object, count, out, sizeof out, &written) == status
+        && strkw_errors(7, 0, object, count, text, 1, out, sizeof out, &written) == status
+        && strkw_schema_compile(7, 0, object, count, &made) == status && (made != NULL) == (status == STRKW_DONE);
+    strkw_schema_free(made);
+    return holds;
+}
+
+/* Whether all calls with a text ask a date of the whole of it: they tell a verdict, or write these lines. */
+static bool all_ask(const char *text, size_t count, uint8_t verdict, const char *wanted) {
+    const size_t ends[] = {count}, wide[] = {0, count};
+    const uint32_t narrow[] = {0, (uint32_t)count};
+    const uint8_t *object = text_of("{\"format\":\"date\"}"), *bytes = bytes_of(text, count);
+    uint8_t verdicts[] = {7, 7, 7, 7}, lines[LONGEST], kept[LONGEST];
+    size_t written = 77, written_kept = 77;
+    strkw_schema *made = NULL;
+    if (strkw_schema_compile(7, 0, object, 17, &made) != STRKW_DONE) return false;
+    bool holds = strkw_check(7, 0, object, 17, bytes, count, ends, 1, verdicts, 1) == STRKW_DONE
+        && strkw_check_offsets(7, 0, object, 17, bytes, count, wide, 2, verdicts + 1, 1) == STRKW_DONE
+        && strkw_check_offsets32(7, 0, object, 17, bytes, count, narrow, 2, verdicts + 2, 1) == STRKW_DONE
+        && strkw_schema_check(made, bytes, count, ends, 1, verdicts + 3, 1) == STRKW_DONE;
+    for (size_t i = 0; i < 4; i++) holds = holds && verdicts[i] == verdict;
+    uint8_t status = strkw_errors(7, 0, object, 17, bytes, count, lines, sizeof lines, &written);
+    uint8_t other = strkw_schema_errors(made, bytes, count, kept, sizeof kept, &written_kept);
+    strkw_schema_free(made);
+    if (wanted == NULL) return holds && status == STRKW_NOT_UTF8 && other == STRKW_NOT_UTF8;
+    return holds && status == STRKW_DONE && other == STRKW_DONE && written == strlen(wanted)
+        && written_kept == written && memcmp(lines, wanted, written) == 0 && memcmp(kept, wanted, written) == 0;
+}
+
+/* Texts and schema objects with a sign in front or behind: all of it counts, in each call. */
+static void call_signed(void) {
+    char text[LONGEST], wanted[LONGEST];
+    for (size_t place = 0; place < 2 * SIGNS; place++) {
+        const size_t sign = place / 2;
+        const bool is_behind = place % 2 == 1;
+        const char *shown = signs[sign].shown, *before = is_behind ? "" : shown, *behind = is_behind ? shown : "";
+        const size_t count = signed_text(text, "2024-02-29", sign, is_behind);
+        if (shown != NULL)
+            snprintf(wanted, sizeof wanted, "error /format: \"%s2024-02-29%s\" is not a \"date\"\n%s", before, behind,
+                NOTED);
+        row("errors", "wrong", "a date with a sign at an end",
+            all_ask(text, count, shown != NULL ? 0 : 2, shown != NULL ? wanted : NULL));
+        const bool is_blank = says_yes(signs[sign].behind, "is_json");
+        const size_t size = signed_text(text, "{\"maxLength\":1}", sign, is_behind);
+        row("errors", is_blank ? "right" : "refused", "an object with a sign at an end",
+            all_say(text, size, is_blank ? STRKW_DONE : STRKW_NO_SCHEMA));
+    }
+    row("errors", "right", "a date", all_ask("2024-02-29", 10, 1, NOTED));
+    /* One offset alone bounds no text, wherever in the bytes it is. */
+    for (uint32_t offset = 0; offset < 4; offset++) {
+        const size_t wide[] = {offset};
+        const uint32_t narrow[] = {offset};
+        const uint8_t status = offset <= 2 ? STRKW_DONE : STRKW_NO_ROOM;
+        const uint8_t *object = text_of("{}"), *ab = text_of("ab");
+        row_between(offset <= 2 ? "right" : "refused", "one offset",
+            strkw_check_offsets(7, 0, object, 2, ab, 2, wide, 1, NULL, 0) == status
+                && strkw_check_offsets32(7, 0, object, 2, ab, 2, narrow, 1, NULL, 0) == status);
+    }
+    /* With no room at all the count is told too. */
+    const size_t wrong = strlen(WRONG);
+    size_t written = 77;
+    row("errors", "refused", "no room at all", writes(7, 0, DATE, "2023-02-29", 0, STRKW_NO_ROOM, wrong, NULL));
+    row("errors", "refused", "no room at all by NULL",
+        strkw_errors(7, 0, text_of(DATE), strlen(DATE), text_of("2023-02-29"), 10, NULL, 0, &written) == STRKW_NO_ROOM
+            && written == wrong);
+    static const char *none = "/maxLength: the limit is not a non-negative whole number of 64 bits";
+    row("refusal", "refused", "no room at all",
+        tells(7, 0, "{\"maxLength\":-1}", 0, STRKW_NO_ROOM, strlen(none), NULL));
+    row("refusal", "refused", "no room at all by NULL",
+        strkw_refusal(7, 0, text_of("{\"maxLength\":-1}"), 16, NULL, 0, &written) == STRKW_NO_ROOM
+            && written == strlen(none));
+    row("refusal", "refused", "just as much room",
+        tells(7, 0, "{\"maxLength\":-1}", strlen(none), STRKW_REFUSED, strlen(none), none));
 }
 
 /* strkw_schema_compile, and whether it made nothing: the place for it is as it was. */
@@ -1095,12 +1269,14 @@ int main(int count, char **words) {
     call_formats();
     call_decisions();
     call_kinds();
+    call_signs();
     call_answer();
     call_check();
     call_check_offsets();
     call_refusal();
     call_errors();
     call_options();
+    call_signed();
     call_schemas();
 #ifdef PROVED
     call_handles();

@@ -8,6 +8,7 @@ In `stdin` and `stdout` of that crate everything below the line `# by tools/keyw
 above is written by hand, and is not touched. `keyword_meaning.py` says what each row comes to, and `keyword_texts.py`
 has the texts; neither reads what a program answers. The last line is `N passed, M failed`, a row each.
 """
+import base64
 import sys
 from dataclasses import dataclass
 from itertools import combinations, permutations, product, zip_longest
@@ -1786,6 +1787,240 @@ def names_looking_alike():
                 yield asked(7, {"contentMediaType" if name == JSON else "contentEncoding": other}, ["{:}"])
 
 
+# Letters that are those of ASCII to who folds letters or takes compatible ones for the same (Unicode, chapter 5).
+COMPATIBLE = {
+    "s": "\u017f", "i": "\u0131", "k": "\u212a", "d": "\u2146", "e": "\u212f", "a": "\u00aa", "o": "\u00ba",
+    "1": "\u00b9", "2": "\u00b2", "3": "\u00b3", "6": "\u2076", "4": "\u2074", "-": "\u2010", "/": "\u2215",
+    "_": "\uff3f", "t": "\u1d57", "u": "\u1d58", "m": "\u217f", "c": "\u217d", "b": "\u1d47", "h": "\u2095"}
+# What stands around a name that is quoted, in a list, a tag or a path elsewhere.
+AROUND = (
+    ("\"", "\""), ("'", "'"), ("`", "`"), ("(", ")"), ("[", "]"), ("{", "}"), ("<", ">"), ("\u201c", "\u201d"),
+    ("\u2066", "\u2069"), ("\u202e", "\u202c"), ("{{", "}}"), ("${", "}"), ("%", "%"), ("/", "/"), ("./", ""),
+    ("#/", ""), ("urn:", ""), ("http://json-schema.org/", ""), ("https://json-schema.org/draft/2020-12/", "#"),
+    ("", ";"), ("", ";x"), ("", "; a=b"), ("", ";charset=utf-8"), ("", ",x"), ("x,", ""), ("", " x"), ("x ", ""),
+    ("", "|x"), ("", "\ufe0f"), ("", "\u200d"), ("", "\u034f"), ("", "\u20dd"), ("", "\x7f"), ("", "\x1f"),
+    ("\x1e", ""), ("", "\x85"), ("", "\u2029"), ("\u200e", ""), ("", "\U000e0001"), ("", "\uffff"), ("\\", ""),
+    ("", "\\"), ("=?utf-8?q?", "?="), ("", "%00"), ("", "%20"), ("", "\\0"), ("&", ";"), ("", "()"), ("@", ""),
+    ("--", ""), ("", "=1"), ("", "?x"), ("", "s"), ("", "\u0301"), ("", "#"), ("!", ""), ("not ", ""), ("", "+x"),
+    ("", "@1"), ("", "\r\n"), ("\v", ""))
+
+
+def coded(name):
+    """Names that are the name to who decodes, folds or strips it."""
+    ends = sorted({0, len(name) // 2, len(name) - 1})
+    escapes = ("%{:02x}", "%{:02X}", "%u{:04x}", "={:02X}", "&#{};", "&#x{:x};", "\\x{:02x}", "\\u{:04x}",
+               "\\u{{{:x}}}", "\\{:03o}", "U+{:04X}", "\\N{{{:x}}}")
+    found = [name[:at] + form.format(ord(name[at])) + name[at + 1:] for form in escapes for at in ends]
+    found += ["".join(form.format(ord(letter)) for letter in name) for form in escapes]
+    found += [name.replace(sign, other) for sign in "/-_" for other in (
+        *(form.format(ord(sign)) for form in escapes), "\\" + sign, "~1", "&sol;", " ", sign * 2, ".", ":", "")]
+    found += [name[:at] + sign + name[at:] for at in (1, len(name) // 2) for sign in (
+        "\\", "\xad", "\u200b", "\u200c", "\u2060", "\ufeff", "\u034f", "\u180e", "\0", "\u0301\u0301",
+        "\U000e0100")]
+    found += [name.replace(letter, other) for letter, other in COMPATIBLE.items() if letter in name]
+    found += [name.translate(COMPATIBLE_LETTERS[start]) for start in COMPATIBLE_LETTERS]
+    found += [front + name + tail for front, tail in AROUND]
+    found += [base64.b64encode(name.encode()).decode(), name.encode().hex(), name[::-1], name + name, f"{name} {name}"]
+    return [other for other in dict.fromkeys(found) if other != name]
+
+
+# Fullwidth letters, and mathematical ones of two kinds, by the one for `a`.
+COMPATIBLE_LETTERS = {
+    start: {letter: start + letter - ord("a") for letter in range(ord("a"), ord("z") + 1)}
+    for start in (0xFF41, 0x1D41A, 0x1D5BA, 0x24D0)}
+
+
+def names_in_other_codings():
+    """A name is compared character by character: it is not decoded, folded, unquoted or cut."""
+    for place, name in enumerate(FORMAT_NAMES):
+        for other in coded(name)[place % 4::4]:
+            yield named(other)
+    for other in coded("date"):
+        yield requested(7, {"format": other}, "x", ignore_unknown_formats=False)
+    for place, name in enumerate(ENCODERS):
+        for other in coded(name)[0 if name == "base64" else place % 3::1 if name == "base64" else 3]:
+            yield asked(7, {"contentEncoding": other}, ["!"])
+        for other in coded(name)[place::7]:
+            yield asked(6, {"contentMediaType": JSON, "contentEncoding": other}, ["{:}"])
+    for other in coded(JSON):
+        yield asked(7, {"contentMediaType": other}, ["{:}"])
+    for draft, keyword in product((7, 202012), KEYWORDS):
+        bad, beside = (-1, {"maxLength": 1}) if keyword != "maxLength" else (-1, {"minLength": 3})
+        if keyword == "contentSchema":
+            bad, beside = parsed("1.5"), {"contentMediaType": "x", "maxLength": 1}
+        others = {other: bad for other in coded(keyword)}
+        yield asked(draft, {**others, **beside}, ["ab"])
+        yield requested(draft, {**others, **beside}, "ab")
+    for place, member in enumerate(MEMBERS):
+        for other in coded(member)[place % 3::3]:
+            yield lined({**ONE_REQUEST, other: RIGHT_MEMBERS[member]})
+    for name in ("word", "date", "base64", JSON):
+        rows = [[other, "none"] for other in coded(name)]
+        codecs = [[other, "plain"] for other in coded(name)]
+        yield asked(7, {"format": name}, ["x"], formats=rows)
+        yield asked(7, {"contentMediaType": name}, ["{:}"], media_types=rows)
+        yield asked(7, {"contentEncoding": name}, ["!"], codecs=codecs)
+        yield asked(6, {"contentMediaType": name, "contentEncoding": name}, ["!"], media_types=rows, codecs=codecs)
+        for other in coded(name)[::1 if name == "word" else 5]:
+            yield asked(7, {"format": other, "contentMediaType": other, "contentEncoding": other}, ["x"],
+                        formats=[[name, "none"]], media_types=[[name, "none"]], codecs=[[name, "plain"]])
+
+
+# A number that is no whole one of 64 bits, and values beside which it stands first, last or between.
+BESIDE_FRACTIONS = ("0", "true", '"1.5"', "[]", '{"a":{}}', "18446744073709551615")
+
+
+def fractions_among_others():
+    """A number that is no whole number of 64 bits is seen wherever it stands among others."""
+    for number, other in product(("1.5", "-0", "18446744073709551616"), BESIDE_FRACTIONS):
+        for place in range(3):
+            values = [other, other]
+            values.insert(place, number)
+            for value in (f"[{','.join(values)}]", f'{{"a":{values[0]},"b":{values[1]},"c":{values[2]}}}',
+                          f'[{{"a":[{",".join(values)}]}},{other}]'):
+                for keyword in ("format", "contentSchema", "contentEncoding"):
+                    draft = 202012 if keyword == "contentSchema" else 7
+                    beside = {"contentMediaType": "x"} if keyword == "contentSchema" else {}
+                    yield asked(draft, {**beside, keyword: parsed(value)})
+        yield requested(202012, {"contentMediaType": "x", "contentSchema": parsed(f"[{other},{number},{other}]")}, "x")
+
+
+# Characters that other readers refuse, drop or take for others: noncharacters, controls, marks, and what is unassigned.
+ODD = tuple(map(chr, (
+    0x7F, 0x80, 0x85, 0x9F, 0xA0, 0xAD, 0x378, 0x600, 0x61C, 0x180E, 0x200B, 0x200E, 0x2028, 0x2029, 0x202E, 0x2060,
+    0x2066, 0x206F, 0xD7FF, 0xE000, 0xF8FF, 0xFDD0, 0xFDEF, 0xFE0F, 0xFEFF, 0xFFF9, 0xFFFC, 0xFFFD, 0xFFFE, 0xFFFF,
+    0x10000, 0x1FFFE, 0x1FFFF, 0x2FFFF, 0x30000, 0xE0001, 0xE0020, 0xEFFFF, 0xF0000, 0xFFFFE, 0xFFFFF, 0x100000,
+    0x10FFFE, 0x10FFFF)))
+
+
+def odd_characters_in_json():
+    """Each of them stands in a text of JSON as it is or escaped, and nowhere else in JSON (RFC 8259)."""
+    for sign in ODD:
+        units = sign.encode("utf-16-be")
+        escape = "".join(f"\\u{int.from_bytes(units[at:at + 2], 'big'):04x}" for at in range(0, len(units), 2))
+        right = [f'"{sign}"', f'"{escape}"', f'["a{sign}","{escape.upper()}"]'.replace("\\U", "\\u"),
+                 f'{{"{sign}":"{escape}"}}']
+        wrong = [f"{sign}1", f"1{sign}", f'"a"{sign}', f'{sign}"a"', f"[1,{sign}2]", f'{{{sign}"a":1}}',
+                 f"{{{sign}:1}}"]
+        yield asked(7, {"contentMediaType": JSON}, [*right, *wrong])
+        yield asked(6, {"contentMediaType": JSON, "contentEncoding": "base64"},
+                    [base64.b64encode(text.encode()).decode() for text in (*right, *wrong)])
+        for text in (sign, f"a{sign}", f"{sign}{sign}"):
+            yield requested(7, {"maxLength": 1, "minLength": 2}, text)
+            yield requested(202012, {"contentMediaType": text, "contentSchema": {text: [text]}}, text)
+        line = compact(numbered({"draft": 7, "schema": {"minLength": 2}, "instance": "@"})).replace("@", escape)
+        yield made(compact({"input": [line]}), answer_to_text(line))
+
+
+def patterns_shown_whole():
+    """A pattern stands whole in its errors, with what ends a text or a line elsewhere."""
+    for sign in ("\0", "\n", "\r", "\x1a", "\x1b[0m", "\"", "\\\\", "\u2028", "\ufeff", "/", "%", "'"):
+        for pattern in (f"^a{sign}b", f"^a{sign}b$", f"^(a{sign}b|c)$", f"a{sign}+b", f"{sign}*a", f"b+{sign}"):
+            texts = ["x", "a", f"a{sign}b"]
+            yield asked(7, {"pattern": pattern}, texts)
+            if literal_pattern(pattern) is None:
+                for outcome in ("match", "backtracking", "failed"):
+                    yield asked(7, {"pattern": pattern}, texts[:2], patterns=[[pattern, "x", outcome]])
+            yield requested(7, {"pattern": pattern}, "x")
+
+
+# What stands around a text or a name for who strips it, cuts it there or takes it for something else.
+STRIPPED = (
+    *AROUND, ("", "\0"), ("", "\0b"), ("\0", ""), ("\ufeff", ""), ("", "\ufeff"), ("\u200f", ""), ("", "\u200e"),
+    ("", "\u200f"), ("", "\u200b"), ("\u200b", ""), ("\xad", ""), ("", "\xad"), ("", "."), (".", ""), ("#", ""),
+    ("", "#b"), ("", " #b"), ("", "//b"), ("//", ""), ("", " // b"), ("", "/*b*/"), ("", "<!--b-->"), ("", ";b"),
+    ("", "\n"), ("\n", ""), ("", "\r"), ("", "\r\nb"), ("", "\nb"), (" ", ""), ("", " "), (" ", " "), ("\t", "\t"),
+    ("\xa0", "\xa0"), ("", "\u3000"), ("\u2003", ""), ("", "\u2028b"), ("\x85", "\x85"), ("b:", ""), ("", ":"),
+    ("~", ""), ("", "~0"), ("", "\x1a"), ("\x1b[1m", "\x1b[0m"), ("", "\x08"), ("b\x08", ""), ("", "\ufffd"),
+    ("\ufffe", ""))
+SIGNS_OF_PATTERNS = "^$\\.*+?()[]{}|/"
+
+
+def whole_texts_and_names():
+    """Whatever stands around a text or a name is part of it, where it is counted, compared, asked of or shown."""
+    texts = list(dict.fromkeys(front + "a" + tail for front, tail in STRIPPED))
+    sizes = sorted({len(text) for text in texts})
+    for size in sizes:
+        of_size = [text for text in texts if len(text) == size]
+        for schema in ({"minLength": size, "maxLength": size}, {"minLength": size}, {"maxLength": size - 1},
+                       {"minLength": size + 1}, {"maxLength": size}):
+            yield asked(7, schema, of_size)
+    yield asked(7, {"format": "n", "contentMediaType": "m"}, texts, formats=[["n", "even"]],
+                media_types=[["m", "even"]])
+    for codec in ("plain", "odd", "bytes"):
+        yield asked(6, {"contentMediaType": "m", "contentEncoding": "c"}, texts, codecs=[["c", codec]],
+                    media_types=[["m", "even"]])
+    for kind in ("match", "backtracking", "failed"):
+        yield asked(7, {"pattern": "a+"}, texts, patterns=[["a+", text, kind] for text in texts])
+        yield asked(7, {"pattern": "a+"}, [*texts, "a"], patterns=[["a+", "a", kind]])
+    for pattern in ("^a$", "^a", "^(a|b)$", r"^\S*$"):
+        yield asked(7, {"pattern": pattern}, texts)
+    for codec, encoder in ENCODERS.items():
+        encoded = encoder(b"[1]").decode()
+        around = [front + encoded + tail for front, tail in STRIPPED]
+        inside = [encoder(f"{front}[1]{tail}".encode()).decode() for front, tail in STRIPPED]
+        yield asked(7, {"contentEncoding": codec}, around)
+        yield asked(6, {"contentMediaType": JSON, "contentEncoding": codec}, around)
+        yield asked(7, {"contentMediaType": JSON, "contentEncoding": codec}, inside)
+    for value in ("[1]", '"a"', "0"):
+        yield asked(7, {"contentMediaType": JSON}, [front + value + tail for front, tail in STRIPPED])
+    for text in texts:
+        written = "".join("\\" + sign if sign in SIGNS_OF_PATTERNS else sign for sign in text)
+        for pattern in (f"^{written}$", f"^({written}|c)$", f"^{written}"):
+            yield asked(7, {"pattern": pattern}, [text, "a", "c"])
+        yield requested(7, {"pattern": f"^{written}$"}, "x")
+        if literal_pattern(text) is None:
+            yield asked(7, {"pattern": text}, ["x"], patterns=[[text, "a", "match"]])
+            yield asked(7, {"pattern": text}, ["x"], patterns=[[text, "x", "failed"]])
+            yield requested(7, {"pattern": text}, "x")
+        yield asked(7, {"format": text}, ["x"], formats=[["a", "all"], [text, "none"]])
+        yield asked(7, {"contentMediaType": text}, ["x"], media_types=[["a", "all"], [text, "none"]])
+        yield asked(6, {"contentMediaType": "m", "contentEncoding": text}, ["x"],
+                    codecs=[["a", "plain"], [text, "odd"]], media_types=[["m", "all"]])
+        yield asked(7, {"format": text}, ignore_unknown_formats=False)
+        yield asked(7, {"format": text}, formats_by_dialect=True)
+        yield requested(7, {"format": text, "minLength": 9}, text, ignore_unknown_formats=False)
+        noted = {"format": text, "contentMediaType": text, "contentEncoding": text}
+        yield requested(202012, {**noted, "contentSchema": {text: [text], "b": {text: text}}, "maxLength": 0}, text)
+        yield asked(7, {"minLength": 99}, ["ab"], location=[text, "b"], way=[text], at=["b", text], absolute=text)
+        segments = [text, "b", text]
+        yield made(compact({"segments": segments}), [f"  {place(segments[:end])}" for end in range(1, 4)])
+
+
+def texts_in_other_codings():
+    """A text that others decode or fold is compared, counted, searched and shown as it stands, and so is a name."""
+    others = "AB", "aB", "a\r\nb", "a  b", "a\u0301b", "\u00e1b", "\u00c4b", "A\u0308b"
+    texts = list(dict.fromkeys((*coded("ab"), *others)))
+    for size in sorted({len(text) for text in texts}):
+        of_size = [text for text in texts if len(text) == size]
+        for schema in ({"minLength": size, "maxLength": size}, {"minLength": size + 1}, {"maxLength": size - 1}):
+            yield asked(7, schema, of_size)
+    for pattern in ("^ab$", "^ab", "^(ab|c)$", r"^\S*$", "^a\r\nb$", "^\u00e1b$", "^a\u0301b$", "^AB$", "^a b$"):
+        yield asked(7, {"pattern": pattern}, texts)
+    for kind in ("match", "failed"):
+        yield asked(7, {"pattern": "a+"}, texts, patterns=[["a+", text, kind] for text in texts])
+        yield asked(7, {"pattern": "a+"}, [*texts, "ab"], patterns=[["a+", "ab", kind]])
+    yield asked(7, {"format": "n", "contentMediaType": "m"}, texts, formats=[["n", "even"]],
+                media_types=[["m", "even"]])
+    yield asked(6, {"contentMediaType": "m", "contentEncoding": "c"}, texts, codecs=[["c", "plain"]],
+                media_types=[["m", "even"]])
+    for codec in ENCODERS:
+        yield asked(7, {"contentEncoding": codec}, texts)
+        yield asked(6, {"contentEncoding": codec, "contentMediaType": JSON}, texts)
+    for text in texts[::3]:
+        written = "".join("\\" + sign if sign in SIGNS_OF_PATTERNS else sign for sign in text)
+        yield asked(7, {"pattern": f"^{written}$"}, [text, "ab"])
+        yield requested(7, {"pattern": f"^{written}$"}, text + "x")
+        yield asked(7, {"format": text}, ["x"], formats=[["ab", "all"], [text, "none"]])
+        yield asked(7, {"contentMediaType": text}, ["x"], media_types=[["ab", "all"], [text, "none"]])
+        yield requested(7, {"format": text}, text, ignore_unknown_formats=False)
+        noted = {"format": text, "contentMediaType": text, "contentEncoding": text}
+        yield requested(202012, {**noted, "contentSchema": {text: [text], "ab": {text: text}}, "maxLength": 0}, text)
+        yield asked(7, {"minLength": 99}, ["ab"], location=[text, "b"], way=[text], at=["b", text], absolute=text)
+        segments = [text, "b", text]
+        yield made(compact({"segments": segments}), [f"  {place(segments[:end])}" for end in range(1, 4)])
+
+
 def schemas_within():
     """Only the members of the object itself count: nothing is followed, and nothing in it is looked into."""
     inner = '{"maxLength":0,"minLength":9,"pattern":"^z","format":"ipv4","contentEncoding":5}'
@@ -2423,6 +2658,9 @@ SECTIONS = (
     ("texts that spell something elsewhere", texts_spelt_otherwise),
     ("segments of other paths", segments_of_others), ("names that look alike", names_looking_alike),
     ("schema objects within others", schemas_within), ("drafts as they are written", drafts_as_they_are_written),
+    ("names in other codings", names_in_other_codings), ("fractions among others", fractions_among_others),
+    ("odd characters in JSON", odd_characters_in_json), ("patterns shown whole", patterns_shown_whole),
+    ("whole texts and names", whole_texts_and_names), ("texts in other codings", texts_in_other_codings),
     ("long ones", long_ones), ("rows by options", rows_by_options), ("content by options", content_by_options),
     ("limits that are left out", limits_left_out), ("other notations around content", notations_around),
     ("names of other keywords", names_of_other_keywords), ("values by options", values_by_options),

@@ -188,7 +188,7 @@ class Schema:
     def _take_format(self, source: bytes, checks: Mapping[str, Check], only_notes: bool) -> bytes:
         """The schema object without a format that the caller registers."""
         try:
-            members = json.loads(source)
+            members = json.loads(source.decode())
         except ValueError:
             return source
         name = members.get("format") if isinstance(members, dict) else None

@@ -50,10 +50,108 @@ fn names_lead_to_formats_and_back() {
 }
 
 #[test]
+fn names_are_compared_as_they_stand() {
+    let names: Vec<&str> =
+        Format::ALL.iter().map(|it| it.name()).chain(Encoding::ALL.iter().map(|it| it.name())).collect();
+    let formats = [
+        "date", "date-time", "duration", "email", "hostname", "hostname-draft4", "ipv4", "ipv6", "iri", "iri-reference",
+        "json-pointer", "relative-json-pointer", "time", "uri", "uri-reference", "uri-template", "uuid",
+    ];
+    assert_eq!(names[..formats.len()], formats);
+    assert_eq!(names[formats.len()..], ["base64", "base64url", "base32", "base32hex", "base16", "json"]);
+    for name in &names {
+        let mut others: Vec<String> = ["_", "", " "].map(|joiner| name.replace('-', joiner)).into();
+        others.push(name.to_uppercase());
+        others.extend(["\n", "\0", "\0a", "\u{301}", "s", ";", "?", "\""].map(|sign| format!("{name}{sign}")));
+        let fronts = ["\t", "\0", "\u{feff}", "\u{200b}", "x-", "is-", "/", "#", "\""];
+        others.extend(fronts.map(|sign| format!("{sign}{name}")));
+        others.push(format!("%{:02x}{}", name.as_bytes()[0], &name[1..]));
+        others.push(name.replace('s', "\u{17f}"));
+        for other in others.iter().filter(|other| !names.contains(&other.as_str())) {
+            assert_eq!(other.parse::<Format>(), Err(UnknownName(other.clone())));
+            assert_eq!(other.parse::<Encoding>(), Err(UnknownName(other.clone())));
+        }
+        // A name of one kind is none of the other.
+        assert_ne!(name.parse::<Format>().is_ok(), name.parse::<Encoding>().is_ok(), "{name}");
+    }
+}
+
+#[test]
+fn each_name_has_a_check_of_its_own() {
+    // A text, and the names that say yes of it: all others say no.
+    let rows = [
+        ("ab--c", "hostname-draft4 iri-reference uri-reference uri-template"),
+        ("2001:db8::1", "ipv6 uri-template"),
+        ("/r\u{e9}sum\u{e9}", "iri-reference json-pointer uri-template"),
+        ("/{var}{?q*}", "json-pointer uri-template"),
+        ("0#", "iri-reference relative-json-pointer uri-reference uri-template"),
+        ("ftp://ftp.is.co.za/rfc/rfc1808.txt", "iri iri-reference uri uri-reference uri-template"),
+        ("1985-04-12T23:20:50.52Z", "date-time uri-template"),
+        ("23:20:50Z", "time uri-template"),
+        ("a.b@example.com", "email iri-reference uri-reference uri-template"),
+        ("/+8=", "iri-reference json-pointer uri-reference uri-template base64"),
+        ("_-8=", "iri-reference uri-reference uri-template base64url"),
+        ("MZXW6YQ=", "iri-reference uri-reference uri-template base64 base64url base32"),
+        ("CPNMUOG=", "iri-reference uri-reference uri-template base32hex"),
+        ("{\"a\":1}", "json"),
+        ("", "iri-reference json-pointer uri-reference uri-template base64 base64url base32 base32hex base16"),
+        ("2024-02-29\0", ""),
+        ("2024-02-29 ", ""),
+        (" 2024-02-29", ""),
+        ("2024-02-29\n", ""),
+        ("\u{feff}2024-02-29", "iri-reference uri-template"),
+        ("192.0.2.1\0", ""),
+        ("/a\0b", "json-pointer"),
+        ("Zm9vYg==\n", ""),
+        (" Zm9vYg==", ""),
+        ("666F6F62\0", ""),
+        ("\u{a0}1", "iri-reference uri-template"),
+        (" null\n", "json"),
+    ];
+    for (text, yes) in rows {
+        let yes: Vec<&str> = yes.split(' ').collect();
+        for format in Format::ALL {
+            assert_eq!(format.is_valid(text), yes.contains(&format.name()), "{} of {text:?}", format.name());
+        }
+        for encoding in Encoding::ALL {
+            assert_eq!(encoding.is_valid(text), Ok(yes.contains(&encoding.name())), "{} of {text:?}", encoding.name());
+        }
+    }
+    for (text, is_mail, is_host, is_pattern) in [
+        ("\u{e9}@b", true, false, true),
+        ("a@b", true, false, true),
+        ("b\u{fc}cher", false, true, true),
+        (" a@b", false, false, true),
+        ("a@b\n", false, false, true),
+        ("b\u{fc}cher\0", false, false, true),
+        (" b\u{fc}cher", false, false, true),
+        ("a\u{308}", false, false, true),
+        ("(", false, false, false),
+        (" (", false, false, false),
+        ("(\0)", false, false, true),
+        ("", false, false, true),
+    ] {
+        assert_eq!(is_idn_email(text), Ok(is_mail), "{text:?}");
+        assert_eq!(is_idn_hostname(text), Ok(is_host), "{text:?}");
+        assert_eq!(is_regex(text), Ok(is_pattern), "{text:?}");
+    }
+}
+
+#[test]
 fn requests_have_the_stored_answers() {
     let answers = answer(stored("requests.jsonl").as_bytes()).unwrap();
     assert_eq!(String::from_utf8(answers).unwrap(), stored("answers.txt"));
     assert_eq!(answer(b"").unwrap(), b"");
+    // A zero byte ends no line, and the last line may have no line feed.
+    let request = r#"{"draft":7,"schema":{},"instance":0}"#;
+    for (requests, answers) in [
+        (request.to_owned(), "valid\nend\n".to_owned()),
+        (format!("{request}\n\0\n{request}"), "valid\nend\nbad request\nend\nvalid\nend\n".to_owned()),
+        (format!("{request}\0\n{request}\n"), "bad request\nend\nvalid\nend\n".to_owned()),
+        ("\n".repeat(100), "bad request\nend\n".repeat(100)),
+    ] {
+        assert_eq!(String::from_utf8(answer(requests.as_bytes()).unwrap()).unwrap(), answers, "{requests:?}");
+    }
 }
 
 #[test]
@@ -80,6 +178,29 @@ fn errors_and_notes_are_told() {
     ];
     assert_eq!(told, wanted);
     assert_eq!(report.notes, [("format".to_owned(), r#""date""#.to_owned())]);
+    // Notes stand in the order of the keywords, beside errors too, and a value is JSON as it is noted.
+    let object = r#"{"maxLength": 0, "format": "uuid", "contentSchema": {"a: b": [" /c: d"]},
+        "contentEncoding": "\u0000", "contentMediaType": "a: /b\n"}"#;
+    let (early, late) = (Draft::Draft201909, Draft::Draft202012);
+    for (draft, text, count) in [(early, "a: /b", 2), (late, "", 1), (early, "\0", 2), (late, "error /a: b", 2)] {
+        let report = schema(draft, object).report(text).unwrap();
+        assert_eq!(report.errors.len(), count, "{text:?}");
+        let notes: Vec<_> = report.notes.iter().map(|(keyword, value)| (keyword.as_str(), value.as_str())).collect();
+        let wanted = [
+            ("contentMediaType", r#""a: /b\n""#),
+            ("contentEncoding", r#""\u0000""#),
+            ("contentSchema", r#"{"a: b":[" /c: d"]}"#),
+            ("format", r#""uuid""#),
+        ];
+        assert_eq!(notes, wanted);
+    }
+    // A text is asked whole, the empty one too.
+    let date = schema(Draft::Draft7, r#"{"format": "date"}"#);
+    for text in ["", "2024-02-29\0", "2024-02-29\n", " 2024-02-29", "\u{feff}2024-02-29", "2024-02-29 "] {
+        assert!(!date.is_valid(text).unwrap(), "{text:?}");
+        assert_eq!(date.are_valid(&["2024-02-29", text, "2024-02-29"]).unwrap(), [true, false, true]);
+        assert_eq!(date.errors(text).unwrap().len(), 1, "{text:?}");
+    }
     let longer = schema(Draft::Draft7, r#"{"maxLength": 1}"#);
     for text in ["a: b", "a: /b: c", "a\u{85}b", "a\u{2028}b", "a\u{b}b\u{c}c\r\n"] {
         let errors = longer.errors(text).unwrap();
@@ -151,6 +272,10 @@ fn options_stand_beside_one_another() {
 #[test]
 fn refusals_are_told() {
     let compile = |object| Schema::compile(Draft::Draft7, Options::default(), object).map(|_| ());
+    for object in ["{}\0", "\u{feff}{}", "{},", "{}{}", " ", "null", "true", "\"{}\"", "{'a':1}", "{}\u{a0}", "[{}]"] {
+        assert_eq!(compile(object), Err(CompileError::NoObject), "{object:?}");
+    }
+    assert_eq!(compile(" \t\r\n{} \n"), Ok(()));
     assert_eq!(compile("[]"), Err(CompileError::NoObject));
     assert_eq!(compile(""), Err(CompileError::NoObject));
     let refused = compile(r#"{"format": "uuid"}"#).unwrap_err().to_string();
