@@ -2964,6 +2964,20 @@ def placed_label_rows():
         yield idn_texts(at_places([*PLACED_FORMS, *map(to_a_label, PLACED_FORMS)], other, 3))
 
 
+def dot_rows():
+    """Names with each of the dots of RFC 3490 between labels of each kind."""
+    yield "each of the four dots between labels of each kind, beside each other one, at the ends, and two (RFC 3490)"
+    names = []
+    kinds = (("a", "b", "c", "d"), ("a", "\u00fc", "xn--tda", "\u4e00"), ("\u05d0", "\u00fc1", "\u05d1", "xn--4db"),
+             ("1a", "\u05d0", "\u05d1", "a"), ("\u05d01", "\u05d1", "\u0628", "xn--4db"))
+    for labels, between in itertools.product(kinds, itertools.product(DOTS, repeat=3)):
+        names.append("".join(part for pair in zip(labels, (*between, "")) for part in pair))
+    for one, other, label in itertools.product(("", *DOTS), DOTS, ("a", "\u00fc", "\u05d0", "xn--tda")):
+        names += [f"{label}{one}{other}", f"{one}{other}{label}", f"{label}{one}{other}{label}",
+                  f"{label}{one}{label}{other}{label}"]
+    yield idn_texts(names)
+
+
 def idn_rows():
     """The rows of internationalised host names."""
     yield "internationalised host names: RFC 5890 to 5893"
@@ -2978,6 +2992,7 @@ def idn_rows():
               ["\u0628", "\u200c\u0628"], ["\u0628\u200c", "\u0628"])
     for before, behind in places:
         yield idn_sums(before, behind, 0x20000)
+    yield from dot_rows()
 
 
 # Patterns: ECMA-262 2024, section 22.2.1, with the flag u, and what README.md of the crate says of limits.
@@ -6709,6 +6724,167 @@ def row_of_classes_rows():
     yield long_searches(rows)
 
 
+# Classes before and behind the one that is counted, so many that a text has eight characters without it.
+LONG_SIDES = (
+    (("a", "[a-c]", "\\d", "."), ("\\d", "a", "[^x]", "[a-c]")),
+    (("[a-c]",), ("a", "\\d", ".", "\\S", "a", "\\d", "[a-c]")),
+    (("\\d", "a", "[a-c]", "[^x]", "a", ".", "\\d"), ("[a-c]",)),
+    ((), ("a", "\\d", "[a-c]", ".", "\\S", "a", "[^x]", "\\d")),
+    (("a", "\\d", "[a-c]", ".", "\\S", "a", "[^x]", "\\d"), ()), (("a",) * 5, ("\\d",) * 6))
+# What may stand between such sides: two classes that may be read several times or not at all, which make no chain, and
+# some that are one class.
+BETWEEN_SIDES = (
+    "x?y?", "x?y", "xy?", "x*y?", "x?y*", "x+y?", "x?y+", "x*y*", "x+y+", "x{0,2}y{0,2}", "x{2}y{0,2}", "x{0,2}y{2}",
+    "x?x?", "x?x*", "x*x?", "x?[xy]?", "[xy]?x?", "x?y?x?", "(?:xy)?", "(?:x|y)?", "(?:x?y)?", "(?:x?)*", "x??", "x*?",
+    "(?:xx)*", "(?:xx)?", "x{3}", "x{3}y{3}", "x{0}", "x{0}y", "(?=x)x?", "x?(?=1)", "x?^", "$x?", "x?\\b", "\\Bx?",
+    "(?:x?|y)", "(?:x|y?)", "x(?:y)?", "(?:)", "(?:x)", "(x)?", "x?|y")
+
+
+def counted_between(low, high):
+    """How often a class may be read as it is counted, and numbers beside."""
+    return sorted({0, max(low - 1, 0), low, min(high, 9) + 1})
+
+
+def long_sides_rows():
+    """Texts of eight characters and more, whose classes are looked up one behind another."""
+    yield ("many classes in a row before and behind the one that is counted, which may be read not at all: another's "
+           "character at each place")
+    rows = []
+    turned = itertools.product(LINKS, LINK_QUANTIFIERS.items())
+    for turn, (name, (quantifier, (low, high))) in enumerate(turned):
+        before, behind = LONG_SIDES[turn % len(LONG_SIDES)]
+        classes, at, bound = [*before, name, *behind], len(before), 99 if high == 12 else high
+        pattern = f"^{''.join(before)}{name}{quantifier}{''.join(behind)}$"
+        for between in counted_between(low, high):
+            names = [*before, *[name] * between, *behind]
+            right = [LINKS[one][1][place % len(LINKS[one][1])] for place, one in enumerate(names)]
+            tried = [right, right[1:], [*right, "1"]]
+            if between in (0, low):
+                tried += [[*right[:place], LINKS[one][2][-1], *right[place + 1:]] for place, one in enumerate(names)]
+            rows += [[pattern, text, is_in_a_row(classes, low, bound, at, text)]
+                     for text in dict.fromkeys(map("".join, tried))]
+    yield searches(rows)
+    yield "what is counted between such sides, alone and two of it, as both ends of a text bound it"
+    rows = []
+    sides = (("abcd", "1234"), ("abcdefgh", ""), ("", "12345678"), ("a", "1234567"), ("abcdefg", "1"))
+    for turn, inner in enumerate(BETWEEN_SIDES):
+        before, behind = sides[turn % len(sides)]
+        pattern = f"^{before}{inner}{behind}$"
+        found = re.compile(pattern.replace("$", "\\Z"), re.ASCII)
+        for word in ("", "x", "y", "xx", "xy", "yx", "yy", "xxx", "xxy", "xyx", "xyy", "yxx", "xxxyyy", "xxyy"):
+            rows += [[pattern, text, found.search(text) is not None]
+                     for text in (f"{before}{word}{behind}", f"{before}{word}{behind}1")]
+    yield searches(rows)
+    yield "each character of ASCII among such classes, and as the one that is counted"
+    classes = {"[^a]": lambda c: c != "a", "\\W": is_no_word, "[\\x40-\\x7f]": lambda c: "@" <= c <= "\x7f"}
+    rows = []
+    for (name, has), one in itertools.product(classes.items(), ASCII):
+        rows += [[f"^bcde{name}fghi$", f"bcde{one}fghi", has(one)],
+                 [f"^bcd{name}+efgh$", f"bcd{one}{one}efgh", has(one)]]
+    yield searches(rows)
+
+
+# Classes and counts of a pattern that is too large for a table.
+FAR_COUNTS = (("{0,1500}", 0, 1500), ("{1,1500}", 1, 1500), ("{1200,1300}", 1200, 1300), ("{1100}", 1100, 1100),
+              ("{1100,}", 1100, 9999))
+FAR_LINKS = {
+    "\\p{L}": ("ä", "1"), "[^x]": ("漢", "x"), ".": ("😀", "\n"), "\\S": ("é", "\u3000"), "[a-c]": ("b", "é"),
+    "[^\\n]": ("a", "\n")}
+
+
+def far_row_rows():
+    """Classes in a row of which one is counted up to so many times that a pattern has no table."""
+    yield ("classes in a row, one of which is counted up to hundreds, with others before and behind it: another's "
+           "character at each place of these and at both ends of the counted ones, and so many as none or one off")
+    rows = []
+    sides = ((("[à-ö]", "\\d"), ("\\d", "[a-c]", "\\p{L}")), ((), ("[à-ö]",)), (("\\p{L}",), ()),
+             (("a", "[a-c]"), ("\\d", "a")))
+    turned = itertools.product(FAR_LINKS.items(), FAR_COUNTS)
+    for turn, ((name, (one, other)), (quantifier, low, high)) in enumerate(turned):
+        for before, behind in sides[turn % 4:turn % 4 + 1]:
+            pattern = [[f"^{''.join(before)}{name}{quantifier}{''.join(behind)}$", 1]]
+            head, tail = ([LINKS[link][1][-1] for link in side] for side in (before, behind))
+            for size in sorted({0, low - 1, low, low + 1, min(high, low + 300), high + 1} & {*range(1502)}):
+                rows.append([pattern, [["".join(head), 1], [one, size], ["".join(tail), 1]], low <= size <= high])
+            size = max(low, 8)
+            for place, link in enumerate(before):
+                spoilt = "".join([*head[:place], LINKS[link][2][0], *head[place + 1:]])
+                rows.append([pattern, [[spoilt, 1], [one, size], ["".join(tail), 1]], False])
+            for place, link in enumerate(behind):
+                spoilt = "".join([*tail[:place], LINKS[link][2][0], *tail[place + 1:]])
+                rows.append([pattern, [["".join(head), 1], [one, size], [spoilt, 1]], False])
+            for first in (0, size // 2, size - 1):
+                rows.append([pattern, [["".join(head), 1], [one, first], [other, 1], [one, size - first - 1],
+                                       ["".join(tail), 1]], False])
+    rows = [[pattern, [part for part in text if part[0] and part[1]], found] for pattern, text, found in rows]
+    yield long_searches(rows)
+
+
+def front_row_rows():
+    """Look-aheads at the front that are classes in a row up to the end of the text."""
+    yield ("look-aheads at the front for classes in a row up to the end of a text, each as it is to be found or not, "
+           "one and two of them, in texts of eight characters and more")
+    rows = []
+    sides = ((("a", "[a-c]", "\\d"), ("[a-c]", "\\d", "a", ".")), (("[^x]",), ("a", "\\d", "[a-c]", "\\S", "a", "a")))
+    for turn, (name, (quantifier, (low, high))) in enumerate(itertools.product(LINKS, LINK_QUANTIFIERS.items())):
+        before, behind = sides[turn % 2]
+        classes, at, bound = [*before, name, *behind], len(before), 99 if high == 12 else high
+        body = f"{''.join(before)}{name}{quantifier}{''.join(behind)}$"
+        forms = {f"^(?={body})": True, f"^(?!{body})": False, f"^(?=a|b)(?={body})[^]*$": True,
+                 f"^(?!{body})(?!{body})[^]+": False}
+        for between in counted_between(low, high):
+            names = [*before, *[name] * between, *behind]
+            right = [LINKS[one][1][place % len(LINKS[one][1])] for place, one in enumerate(names)]
+            right[0] = "a"
+            for text in ("".join(right), "".join([*right[:-1], "\n"]), "".join([*right, "1"])):
+                found = is_in_a_row(classes, low, bound, at, text)
+                rows += [[form, text, found == is_sought] for form, is_sought in forms.items()]
+    yield searches(rows)
+
+
+# Alternatives of other lengths that a look-behind or a look-ahead may look for.
+UNLIKE_ALTERNATIVES = (
+    "a|bc", "bc|a", "a|ab|abc", "|ab", "ab|", "a|bca|c", "(?:a|bc)b", "b(?:a|bc)", "a{1,3}|b", "a?b|c", "^a|bc",
+    "bc|^", "a|bc$", "(?:a|bc){2}")
+
+
+def unlike_alternative_rows():
+    """Alternatives of other lengths in look-arounds."""
+    yield ("alternatives of other lengths in a look-behind and a look-ahead, each of which is tried (22.2.2.4), in "
+           "each text of a, b and c")
+    rows = []
+    for body, word in itertools.product(UNLIKE_ALTERNATIVES, words("abc", range(4))):
+        behind = [stands_behind(body, word, place) for place, one in enumerate(word) if one == "c"]
+        ahead = [stands_ahead(body, word, place + 1) for place, one in enumerate(word) if one == "a"]
+        rows += [[f"(?<={body})c", word, any(behind)], [f"(?<!{body})c", word, not all(behind)],
+                 [f"a(?={body})", word, any(ahead)], [f"a(?!{body})", word, not all(ahead)]]
+    yield searches(rows)
+
+
+# What may stand at the ends of a pattern in the place of `^` and of `$`, beside what reads eight characters and more.
+FIRST_EDGES = ("^", "\\b", "\\B", "", "^^", "(?:^)", "(?=a)", "^(?=a)", "(?<=^)", "(?<!x)", "\\b^", "^\\b", "(?:^|x)",
+               "(?<![^])")
+LAST_EDGES = ("$", "\\b", "\\B", "", "$$", "(?:$)", "(?<=h)", "(?<=h)$", "(?=$)", "(?!x)", "\\b$", "$\\b", "(?:$|x)",
+              "(?![^])")
+ROWS_BETWEEN_EDGES = (
+    "abcdefgh", "abcd[a-z]{4}", "[a-h]+", "[a-h]{8}", "a[a-h]{0,9}h", "a.{6}h", "\\w{8}", "ab?[b-g]*h")
+
+
+def edge_of_row_rows():
+    """Classes in a row between other assertions than `^` and `$`."""
+    yield ("classes in a row with each assertion before and behind them: only `^` and `$` are the ends of a text, and "
+           "else they are found within one")
+    words_around = ("abcdefgh", "xabcdefgh", "abcdefghx", " abcdefgh ", "x abcdefgh", "abcdefgh x", "-abcdefgh-",
+                    "abcdefg", "éabcdefghé", "x\nabcdefgh\nx")
+    rows = []
+    for turn, (first, last) in enumerate(itertools.product(FIRST_EDGES, LAST_EDGES)):
+        inner = ROWS_BETWEEN_EDGES[(turn + turn // 8) % len(ROWS_BETWEEN_EDGES)]
+        pattern = f"{first}{inner}{last}"
+        found = re.compile(pattern.replace("[^]", "(?s:.)").replace("$", "\\Z"), re.ASCII)
+        rows += [[pattern, text, found.search(text) is not None] for text in words_around]
+    yield searches(rows)
+
+
 def ecma_rows():
     """The rows of patterns of ECMA-262."""
     return rows_of(escape_rows, name_rows, class_rows, member_rows, look_rows, ahead_rows, limit_rows, property_rows,
@@ -6722,7 +6898,8 @@ def ecma_rows():
                    other_class_rows, class_reason_rows, page_edge_rows, class_content_rows, language_word_rows,
                    common_pattern_rows, long_literal_rows, far_text_rows, nested_look_rows, deep_quantifier_rows,
                    count_end_rows, category_edge_rows, name_edge_rows, front_table_rows, name_sequence_rows,
-                   escape_pair_rows, depth_rows, row_of_classes_rows)
+                   escape_pair_rows, depth_rows, row_of_classes_rows, long_sides_rows, far_row_rows,
+                   front_row_rows, unlike_alternative_rows, edge_of_row_rows)
 
 
 # JSON: RFC 8259, as Python's json reads it, and as serde_json does a number out of the range of 64 bits (IEEE 754).
