@@ -23,7 +23,7 @@ import unicodedata
 from collections import Counter
 from pathlib import Path
 
-import grammar_rows as rules
+from grammar import labels as rules
 import idna
 import idna.idnadata
 from idna.intranges import intranges_contain

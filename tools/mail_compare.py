@@ -22,7 +22,7 @@ import unicodedata
 from collections import Counter
 
 import email_validator
-import grammar_rows as rules
+from grammar import labels as rules
 import idna
 import idna_compare
 
