@@ -368,6 +368,30 @@ def texts_in_a_row(classes, at, between):
             yield "".join([*right[:place], other, *right[place + 1:]])
 
 
+# Rows between the ends of a text, in which a class may be missing at each `{}`.
+ROWS_WITH_OPTION = ["{}[b-d]{{2,5}}", "{}[b-d]*", "{}[b-d]+e", "[b-d]{{2,5}}{}", "[b-d]+{}", "[b-d]*{}e", "x{}[b-d]{{3}}",
+                    "xx{}yy[b-d]+zz", "[b-d]{{0,9}}{}zz", "x{}y{}[b-d]+", "{}[b-d]*{}", "x{}y", "[b-d]{{0,300}}{}"]
+OPTIONS = ["a?", "a{0,1}", "[ab]?", "[^b-d]?", "(?:a)?", "a??", "[à-ö]?", "b?", "(?:a|)", "(?:|a)"]
+
+
+def option_in_row_rows():
+    """Classes in a row of which one is counted and another may be missing."""
+    yield ("classes in a row of which one is counted and another may be missing, before it, behind it and apart: texts "
+           "with and without it, of few characters and of many, and one of another class at each place")
+    rows = []
+    for form, option in itertools.product(ROWS_WITH_OPTION, OPTIONS):
+        pattern = f"^{form.replace('{}', option).replace('{{', '{').replace('}}', '}')}$"
+        found = re.compile(pattern[:-1] + "\\Z")
+        parts = [["", "a", "b", "à", "aa", "x"] if part == "{}" else
+                 ["", "bcd", "bcdbcdbc", "b"] if part[0] == "[" else [part]
+                 for part in re.findall(r"\{\}|\[b-d\](?:\{\{[^}]*\}\}|[*+])|[a-z]+", form)]
+        words_of_form = dict.fromkeys("".join(chosen) for chosen in itertools.product(*parts))
+        spoilt = [word[:place] + "é" + word[place + 1:]
+                  for word in list(words_of_form)[::5] for place in range(len(word))]
+        rows += [[pattern, word, found.match(word) is not None] for word in dict.fromkeys([*words_of_form, *spoilt])]
+    yield searches(rows)
+
+
 def row_of_classes_rows():
     """Classes in a row between the ends of a text, of which one is counted or repeated."""
     yield ("classes in a row between the ends of a text, one of them as often as each quantifier says: so many "

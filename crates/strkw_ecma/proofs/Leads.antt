@@ -84,7 +84,7 @@ module _ (text : List ℕ) where
       )
 
 -- all of a list are straight exactly where those of both parts are
-straight_parts : (xs ys : List Instruction) → are_straight (xs ++ ys) ≡ true → (are_straight xs ≡ true) × (are_straight ys ≡ true)
+pub straight_parts : (xs ys : List Instruction) → are_straight (xs ++ ys) ≡ true → (are_straight xs ≡ true) × (are_straight ys ≡ true)
 straight_parts [] ys h = (refl, h)
 straight_parts (x ∷ xs) ys h =
     let both = straight_parts xs ys (and_right (is_straight x) _ h) in

@@ -27,8 +27,10 @@ impl Chain {
     // How often the one class is read in a text of so many characters; none where it may not be.
     fn middle_count(&self, length: usize) -> Option<usize>
         ensures { MatchOption result
-            ((nat_le (ends_of self.now) length && is_often self.now.often (length - ends_of self.now)) ≡ false)
-            (λ count. (count + ends_of self.now ≡ length) × (is_often self.now.often count ≡ true)) }
+            ((nat_le (ends_of self.now) length
+            && is_often self.now.often (length - ends_of self.now)) ≡ false)
+            (λ count. (count + ends_of self.now ≡ length)
+            × (is_often self.now.often count ≡ true)) }
     {
         let count = length
             .checked_sub(self.first.len())?

@@ -1,15 +1,15 @@
 //! How the chain of a program is made, where it is one.
 
 ghost use Rattle.std.specs.Prelude.{◌≡◌, ◌≤◌, ◌++◌, true, false, length, drop, replicate, IfOk, IfSome, IsTrue, Some, [], ◌∷◌};
-ghost use Rattle.strkw_ecma.specs.machine.Chains.{once, repeated, AreChained, IsChainOf};
+ghost use Rattle.strkw_ecma.specs.machine.Chains.{once, repeated, AreChained, IsChainIn};
 ghost use Rattle.strkw_ecma.specs.machine.Links.{AreTables, IsTableOf};
-ghost use Rattle.strkw_ecma.specs.machine.Machine.{IsWithin};
+ghost use Rattle.strkw_ecma.specs.machine.Shape.{are_within};
 ghost use Rattle.strkw_ecma.specs.declared.links.Chain.{Chain};
 ghost use Rattle.strkw_ecma.specs.declared.code.Instruction.TheVariants as instruction;
 ghost use Rattle.strkw_ecma.specs.declared.code.Instruction.TheVariants.{Read};
 ghost use Rattle.strkw_ecma.specs.declared.code.Turn.TheVariants as turn;
 
-use crate::code::{Class, Code, Instruction, Turn};
+use crate::code::{Class, Instruction, Turn};
 use crate::links::{Chain, ClassTable, Often};
 use crate::marks::reads_class;
 use std::alloc::{AllocError, Global};
@@ -80,7 +80,8 @@ impl Instruction {
 // What stands between `^` and `$`, where these are the ends.
 fn between_ends(instructions: &[Instruction]) -> Option<&[Instruction]>
     ensures { IfSome result (λ inner.
-        instructions.now ≡ instruction.Turn turn.Start ∷ (inner.now ++ (instruction.Turn turn.End ∷ []))) }
+        instructions.now ≡ instruction.Turn turn.Start
+        ∷ (inner.now ++ (instruction.Turn turn.End ∷ []))) }
 {
     let (first, behind) = instructions.split_first()?;
     let (last, inner) = behind.split_last()?;
@@ -211,12 +212,17 @@ fn tables_of(alloc: Global, classes: &[Class]) -> Result<Vec<ClassTable>, AllocE
 }
 
 impl Chain {
-    /// The chain of a program; none where it is no chain, or has no class or more of them than a chain may have.
-    pub(crate) fn of(alloc: Global, code: &Code) -> Result<Option<Chain>, AllocError>
-        requires within { IsWithin code.now }
-        ensures { IfOk result (λ made. (c : Chain) → made ≡ Some c → IsChainOf c code.now) }
+    /// The chain of some instructions; none where they are no chain, or there is no class or more than a chain may have.
+    pub(crate) fn of(
+        alloc: Global,
+        classes: &[Class],
+        instructions: &[Instruction],
+    ) -> Result<Option<Chain>, AllocError>
+        requires within { are_within (length classes.now) instructions.now ≡ true }
+        ensures { IfOk result (λ made.
+            (c : Chain) → made ≡ Some c → IsChainIn c classes.now instructions.now) }
     {
-        let Some(parts) = parts_of(alloc, &code.instructions)? else {
+        let Some(parts) = parts_of(alloc, instructions)? else {
             return Ok(None);
         };
         let Parts {
@@ -224,7 +230,7 @@ impl Chain {
             middle,
             last,
         } = parts;
-        if code.classes.len() > MOST_CLASSES || middle.number >= code.classes.len() {
+        if classes.len() > MOST_CLASSES || middle.number >= classes.len() {
             return Ok(None);
         }
         Ok(Some(Chain {
@@ -232,7 +238,7 @@ impl Chain {
             middle: middle.number,
             often: middle.often,
             last,
-            tables: tables_of(alloc, &code.classes)?,
+            tables: tables_of(alloc, classes)?,
         }))
     }
 }

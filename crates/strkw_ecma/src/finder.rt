@@ -1,22 +1,22 @@
-//! What looks for a pattern in a text: its program, and where it has one, its table or its chain.
+//! What looks for a pattern in a text: its program, and where it has one, its table or its chains.
 
 ghost use Rattle.std.specs.Prelude.{◌≡◌, ◌≤◌, ◌||◌, not, ℕ, Bool, List, true, false, IsTrue, IsOk, IfOk, IfSome, None, Some};
 ghost use Rattle.std.specs.Str.{chars};
 ghost use Rattle.strkw_ecma.specs.Glances.{are_told};
 ghost use Rattle.strkw_ecma.specs.Mirror.{along};
 ghost use Rattle.strkw_ecma.specs.Size.{steps, search_steps, max_steps};
-ghost use Rattle.strkw_ecma.specs.machine.Chains.{IsChainOf};
+ghost use Rattle.strkw_ecma.specs.machine.Chains.{are_chained, AreTabled};
 ghost use Rattle.strkw_ecma.specs.machine.Machine.{pattern_of};
 ghost use Rattle.strkw_ecma.specs.machine.Marks.{is_clean, is_unmarked};
 ghost use Rattle.strkw_ecma.specs.machine.Needed.{needed_char as spec_needed};
 ghost use Rattle.strkw_ecma.specs.machine.Search.{search_from};
 ghost use Rattle.strkw_ecma.specs.machine.Searches.{IsSearchedBy};
 ghost use Rattle.strkw_ecma.specs.machine.Shape.{outline_pattern};
-ghost use Rattle.strkw_ecma.specs.declared.links.Chain.{Chain};
+ghost use Rattle.strkw_ecma.specs.declared.branches.Branches.{Branches};
 ghost use Rattle.strkw_ecma.specs.declared.table.Table.{Table};
 
+use crate::branches::Branches;
 use crate::finding::is_found;
-use crate::links::Chain;
 use crate::making::table_of;
 use crate::needed::{LONG, lacks};
 use crate::outline::Outline;
@@ -36,12 +36,15 @@ const LEAST_CHAINED: usize = 8;
 pub(crate) struct Finder {
     pub(crate) program: Program,
     pub(crate) table: Option<Table>,
-    chain: Option<Chain>,
+    chains: Option<Branches>,
     needed: Option<u8>,
     ghost clean: { is_clean (pattern_of program) ≡ true },
     ghost told: { are_told (pattern_of program) ≡ true },
     ghost exact: { (t : Table) → table ≡ Some t → IsSearchedBy t (pattern_of program) },
-    ghost chained: { (c : Chain) → chain ≡ Some c → IsChainOf c program.code },
+    ghost tabled: { (b : Branches) → chains ≡ Some b → AreTabled b program.code.classes.items },
+    ghost chained: { (b : Branches) → chains ≡ Some b → (text : List ℕ)
+        → are_chained program.code.classes.items b text
+        ≡ search_from (pattern_of program) None text },
     ghost read: { needed ≡ spec_needed (pattern_of program) },
 }
 
@@ -54,12 +57,12 @@ impl Finder {
     {
         let needed = outline.needed_byte();
         let program = Program::of(alloc, outline)?;
-        let chain = Chain::of(alloc, &program.code)?;
-        let table = table_of(alloc, &program, chain.is_some())?;
+        let chains = Branches::of(alloc, &program.code)?;
+        let table = table_of(alloc, &program, chains.is_some())?;
         Ok(Finder {
             program,
             table,
-            chain,
+            chains,
             needed,
         })
     }
@@ -75,22 +78,22 @@ impl Finder {
         }
     }
 
-    // Whether the pattern is found in the text, where it is quickly told by its chain.
-    fn ask_chain(&self, text: &str, is_backward: bool) -> Option<bool>
+    // Whether the pattern is found in the text, where it is quickly told by its chains.
+    fn ask_chains(&self, text: &str, is_backward: bool) -> Option<bool>
         ensures { IfSome result (λ found. found
             ≡ search_from (pattern_of self.now.program) None (along is_backward (chars text.now))) }
     {
-        let chain = self.chain.as_ref()?;
+        let chains = self.chains.as_ref()?;
         if is_backward || (self.table.is_some() && text.len() < LEAST_CHAINED) {
             return None;
         }
         if text.is_ascii() {
-            return Some(chain.is_found_in_ascii(text));
+            return Some(chains.is_found_in_ascii(text));
         }
         if self.table.is_some() {
             return None;
         }
-        Some(chain.is_found(&self.program.code.classes, text))
+        Some(chains.is_found(&self.program.code.classes, text))
     }
 
     /// Whether the pattern is found in the text, or where it is looked for backward, in the text turned round.
@@ -98,7 +101,7 @@ impl Finder {
         ensures { result
             ≡ search_from (pattern_of self.now.program) None (along is_backward (chars text.now)) }
     {
-        if let Some(found) = self.ask_chain(text, is_backward) {
+        if let Some(found) = self.ask_chains(text, is_backward) {
             return found;
         }
         if text.len() >= LONG && self.is_ruled_out(text) {

@@ -6,6 +6,7 @@
 mod along;
 mod asides;
 mod bits;
+mod branches;
 mod chain;
 mod chaining;
 mod classes;

@@ -2,8 +2,9 @@
 -- all, classes that are read once each, and `$`. The length of a text tells how often the one class
 -- is read, and so which class each character is to be of.
 use Rattle.std.specs.Prelude.{◌≡◌, ℕ, ◌+◌, ◌-◌, nat_le, Bool, true, false, ◌&&◌, List, [], ◌∷◌}
-use Rattle.std.specs.Prelude.{◌++◌, length, replicate}
+use Rattle.std.specs.Prelude.{◌++◌, length, replicate, ◌||◌, ◌⊎◌, Option, Some, None}
 use Rattle.strkw_ecma.specs.machine.Links.{begins_with, AreTables}
+use Rattle.strkw_ecma.specs.declared.branches.Branches.{Branches}
 use Rattle.strkw_ecma.specs.declared.links.Chain.{Chain}
 use Rattle.strkw_ecma.specs.declared.links.Often.{Often}
 use Rattle.strkw_ecma.specs.declared.links.Often.TheVariants.{AtMost, AnyTimes, SomeTimes}
@@ -49,7 +50,37 @@ abbrev pub AreChained : List Instruction → List ℕ → Often → ℕ → List
 AreChained all first often middle last = all ≡ Turn turn.Start
     ∷ (once first ++ (repeated often middle ++ (once last ++ (Turn turn.End ∷ []))))
 
--- the chain is that of a program
-pub record IsChainOf (c : Chain) (code : Code) : Type 0 where
-  pub written_is : AreChained code.instructions.items c.first.items c.often c.middle c.last.items
-  pub tables_are : AreTables code.classes.items c.tables.items
+-- the chain is that of these instructions
+pub record IsChainIn (c : Chain) (classes : List Class) (all : List Instruction) : Type 0 where
+  pub written_is : AreChained all c.first.items c.often c.middle c.last.items
+  pub tables_are : AreTables classes c.tables.items
+
+-- the text is one character of each class of a chain, if there is one
+abbrev pub is_other_chained : List Class → Option Chain → List ℕ → Bool
+is_other_chained classes None text = false
+is_other_chained classes (Some c) text = is_chained classes c text
+
+-- or of another
+abbrev pub are_chained : List Class → Branches → List ℕ → Bool
+are_chained classes b text = is_chained classes b.one text || is_other_chained classes b.other text
+
+-- instructions have one class that may be missing: without it they are a chain, and with it another
+pub record HasOption (b : Branches) (code : Code) : Type 0 where
+  pub before : List Instruction
+  pub behind : List Instruction
+  pub number : ℕ
+  pub other : Chain
+  pub written_is : code.instructions.items ≡ before ++ (Read number false true ∷ behind)
+  pub is_there : b.other ≡ Some other
+  pub without_it : IsChainIn b.one code.classes.items (before ++ behind)
+  pub with_it : IsChainIn other code.classes.items (before ++ (Read number false false ∷ behind))
+
+-- the chain of a program, or the two
+abbrev pub AreBranchesOf : Branches → Code → Type 0
+AreBranchesOf b code =
+    ((b.other ≡ None) × IsChainIn b.one code.classes.items code.instructions.items) ⊎ HasOption b code
+
+-- each of them has the tables of the classes
+abbrev pub AreTabled : Branches → List Class → Type 0
+AreTabled b classes = AreTables classes b.one.tables.items
+    × ((c : Chain) → b.other ≡ Some c → AreTables classes c.tables.items)

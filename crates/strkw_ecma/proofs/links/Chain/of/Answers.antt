@@ -1,36 +1,33 @@
-use Rattle.std.proofs.Common.{◌≡◌, ℕ, List, Option, Some, IfSome, length, sym, ap, subst, ◌∙◌, arith}
+use Rattle.std.proofs.Common.{◌≡◌, ℕ, List, Option, Some, IfSome, length, ap, subst, ◌∙◌, arith}
 use Rattle.std.proofs.lemmas.Option.{same_Some}
 use Rattle.strkw_ecma.specs.declared.chaining.Parts.{Parts}
-use Rattle.strkw_ecma.specs.declared.code.Class.{Class}
 use Rattle.strkw_ecma.specs.declared.code.Instruction.{Instruction}
-use Rattle.strkw_ecma.specs.machine.Chains.{AreChained, IsChainOf}
-use Rattle.strkw_ecma.specs.machine.Links.{AreTables}
+use Rattle.strkw_ecma.specs.machine.Chains.{AreChained, IsChainIn}
 use Rattle.strkw_ecma.specs.machine.Shape.{are_within}
 use Rattle.strkw_ecma.proofs.Chained.{chain_below}
 use Rattle.strkw_ecma.proofs.links.Chain.of.Goals as goal
 
 -- what is said of parts that are found is said of these
-found_parts : (found : Option Parts) (parts : Parts) (instructions all : List Instruction) → instructions ≡ all → found ≡ Some parts
-    → IfSome found (λ p. AreChained instructions p.first.items p.middle.often p.middle.number p.last.items)
+found_parts : (found : Option Parts) (parts : Parts) (all : List Instruction) → found ≡ Some parts
+    → IfSome found (λ p. AreChained all p.first.items p.middle.often p.middle.number p.last.items)
     → AreChained all parts.first.items parts.middle.often parts.middle.number parts.last.items
-found_parts found parts instructions all e is h =
-    sym e ∙ subst (λ (o : Option Parts). IfSome o (λ p. AreChained instructions p.first.items p.middle.often p.middle.number p.last.items)) is h
+found_parts found parts all is h =
+    subst (λ (o : Option Parts). IfSome o (λ p. AreChained all p.first.items p.middle.often p.middle.number p.last.items)) is h
 
 pub returns : goal.returns
 returns c made is =
-    subst (λ k. IsChainOf k c.args.code.now) (same_Some _ made is) record {
-      written_is = found_parts _ c.in-Some.parts _ c.args.code.now.instructions.items c.deref.ensures.value c.in-Some.is c.in_ok-parts.ensures;
-      tables_are = subst (λ (classes : List Class). AreTables classes c.in_ok-tables_of.field-0.items) c.deref-2.ensures.value c.in_ok-tables_of.ensures;
+    subst (λ k. IsChainIn k c.args.classes.now c.args.instructions.now) (same_Some _ made is) record {
+      written_is = found_parts _ c.in-Some.parts c.args.instructions.now c.in-Some.is c.in_ok-parts.ensures;
+      tables_are = c.in_ok-tables_of.ensures;
     }
 
 pub invariant_of-result : goal.invariant_of-result
 invariant_of-result c =
-    let code = c.args.code.now in
+    let all = c.args.instructions.now in
     let parts = c.in-Some.parts in
     let tables = c.in_ok-tables_of.field-0.items in
-    let many : length tables ≡ length code.classes.items = c.in_ok-tables_of.ensures.so_many ∙ ap length c.deref-2.ensures.value in
+    let many : length tables ≡ length c.args.classes.now = c.in_ok-tables_of.ensures.so_many in
     let below =
-    chain_below (length tables) parts.middle.number code.instructions.items parts.first.items parts.last.items parts.middle.often
-    (found_parts _ parts _ code.instructions.items c.deref.ensures.value c.in-Some.is c.in_ok-parts.ensures)
-    (ap (λ (n : ℕ). are_within n code.instructions.items) many ∙ c.requires.within) in
-    record { first_below = below.0; middle_below = omega (arith, many, c.if-middle-len.false); last_below = below.1 }
+    chain_below (length tables) parts.middle.number all parts.first.items parts.last.items parts.middle.often
+    (found_parts _ parts all c.in-Some.is c.in_ok-parts.ensures) (ap (λ (n : ℕ). are_within n all) many ∙ c.requires.within) in
+    record { first_below = below.0; middle_below = omega (arith, many, c.if-middle-classes.false); last_below = below.1 }
