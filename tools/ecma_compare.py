@@ -34,7 +34,7 @@ LINE_END = re.compile(r"\r\n|\r|\n")
 # What is taken by ECMA-262 and not here, by name.
 BY_DESIGN = [
     ("back reference", re.compile(r"\\[1-9]|\\k<")),
-    ("property", re.compile(r"\\[pP]\{(CWKCF|Changes_When_NFKC_Casefolded|scx=|Script_Extensions=)")),
+    ("property", re.compile(r"\\[pP]\{(CWKCF|Changes_When_NFKC_Casefolded)")),
     ("name twice", re.compile(r"\(\?<(\w+)>.*\(\?<\1>", re.DOTALL)),
     ("lone surrogate", re.compile(r"\\u(\{0*)?[dD][89a-fA-F]")),
 ]
@@ -70,13 +70,14 @@ ESCAPES = ["\\d", "\\D", "\\s", "\\S", "\\w", "\\W", "\\n", "\\t", "\\r", "\\f",
 PROPERTIES = ["\\p{Lu}", "\\p{Uppercase_Letter}", "\\P{Ll}", "\\p{L}", "\\P{Letter}", "\\p{LC}", "\\p{N}", "\\p{Nd}",
               "\\p{digit}", "\\P{punct}", "\\p{Sm}", "\\p{S}", "\\p{Zs}", "\\P{Z}", "\\p{cntrl}", "\\p{C}",
               "\\p{gc=Lo}", "\\P{General_Category=Mn}", "\\p{sc=Grek}", "\\P{Script=Greek}", "\\p{Script=Latin}",
-              "\\p{sc=Han}", "\\p{sc=Zyyy}", "\\P{sc=Zinh}",
+              "\\p{sc=Han}", "\\p{sc=Zyyy}", "\\P{sc=Zinh}", "\\p{scx=Grek}", "\\P{Script_Extensions=Latin}",
+              "\\p{scx=Zyyy}",
               "\\p{Any}", "\\P{ASCII}", "\\p{Assigned}", "\\p{Alphabetic}", "\\P{Alpha}", "\\p{Lower}", "\\P{Uppercase}",
               "\\p{CI}", "\\p{Cased}", "\\P{CWCF}", "\\p{CWT}", "\\p{Dash}", "\\p{Emoji}", "\\P{EPres}", "\\p{ExtPict}",
               "\\p{Gr_Base}", "\\P{Gr_Ext}", "\\p{Hex}", "\\P{AHex}", "\\p{ID_Start}", "\\p{XIDC}", "\\p{Math}",
               "\\P{Pat_Syn}", "\\p{QMark}", "\\p{SD}", "\\p{space}", "\\P{White_Space}"]
 # Others: of properties that are not taken, and some that are none.
-OTHER_PROPERTIES = ["\\p{CWKCF}", "\\p{alphabetic}", "\\P{Emoji=Yes}", "\\p{scx=Grek}", "\\p{Greek}", "\\p{lu}",
+OTHER_PROPERTIES = ["\\p{CWKCF}", "\\p{alphabetic}", "\\P{Emoji=Yes}", "\\p{scx=grek}", "\\p{Greek}", "\\p{lu}",
                     "\\p{gc=Greek}", "\\p{}", "\\pL"]
 QUANTIFIERS = ["*", "+", "?", "*?", "+?", "??", "{2}", "{0}", "{1,}", "{0,2}", "{1,3}?", "{2,2}", "{0,0}", "{3}?",
                "{2,}?"]

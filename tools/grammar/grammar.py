@@ -169,9 +169,9 @@ UNFIT = "([{\\)]}"
 # Atoms, those that the engine does not take, and what is no atom; what may stand behind an atom, and what may not.
 ATOMS = (
     "a", "\u00e9", "\uffff", "\U0001f600", "\ufeff", " ", "/", "-", ",", ".", "\\.", "\\/", "\\n", "\\d", "\\W",
-    "\\0", "\\cA", "\\x41", "\\u0041", "\\u{1F600}", "\\ud83d\\ude00", "\\p{L}", "\\P{sc=Latn}", "[a]", "[^a]",
+    "\\0", "\\cA", "\\x41", "\\u0041", "\\u{1F600}", "\\ud83d\\ude00", "\\p{L}", "\\P{scx=Latn}", "[a]", "[^a]",
     "[^]", "[]", "(a)", "()", "(?:a)", "(?:)", "(?<n>a)", "(|)", "((?=a))", "(?:^)")
-ALONE = ("(a)\\1", "\\1(a)\\1", "(?<n>)\\k<n>", "\\ud83d", "\\ude00", "\\u{D83D}", "\\p{CWKCF}", "\\p{scx=Latn}")
+ALONE = ("(a)\\1", "\\1(a)\\1", "(?<n>)\\k<n>", "\\ud83d", "\\ude00", "\\u{D83D}", "\\p{CWKCF}")
 NO_ATOMS = (
     "", "^", "$", "\\b", "\\B", "(?=a)", "(?!a)", "(?<=a)", "(?<!a)", "|", "a|", "(?=a)|", "a^", "(a)(?=a)", "a*?")
 BEHIND_ATOMS = (

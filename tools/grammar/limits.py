@@ -181,7 +181,7 @@ def refusal_rows():
     yield refusals(MORE_STEPS_OF_ALL, [f"{term}{{{count}}}" for term, count in ahead.items()])
     yield refusals(MORE_STEPS, [f"{term}{{{count + 1}}}" for term, count in ahead.items()])
     yield refusals("taken", [f"{atom}{{{min(MOST_TIMES, count)}}}" for atom, count in most.items()])
-    names = ("any", "ascii", "Alphabetic=Yes", "gc=Alphabetic", "CWKCF", "lu", "gc=lu", "sc=latn", "scx=Latn", "Latin",
+    names = ("any", "ascii", "Alphabetic=Yes", "gc=Alphabetic", "CWKCF", "lu", "gc=lu", "sc=latn", "scx=latn", "Latin",
              "x", "_", "gc=x")
     forms = ("\\p{{{}}}", "\\P{{{}}}", "[\\p{{{}}}]", "a\\p{{{}}}b")
     yield refusals("it has a property that is not known here", in_forms(forms, names))

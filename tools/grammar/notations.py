@@ -183,8 +183,8 @@ def other_class_rows():
 
 # Properties that are not known here, and what may stand around one in a class.
 UNKNOWN_PROPERTIES = (
-    "\\p{Foo}", "\\P{Foo}", "\\p{gc=Foo}", "\\p{Script=Latim}", "\\p{scx=Latn}", "\\P{lu}", "\\p{a=b}", "\\p{Is_L}",
-    "\\p{CWKCF}", "\\P{scx=Zyyy}")
+    "\\p{Foo}", "\\P{Foo}", "\\p{gc=Foo}", "\\p{Script=Latim}", "\\p{scx=Latim}", "\\P{lu}", "\\p{a=b}", "\\p{Is_L}",
+    "\\p{CWKCF}", "\\P{scx=Lu}")
 PLACES_IN_CLASSES = (
     "[{}]", "[^{}]", "[a{}]", "[^a{}]", "[a-{}]", "[^a-{}]", "[\\d{}]", "[\\d-{}]", "[a-z{}]", "[a-z-{}]", "[-{}]",
     "[--{}]", "[\\p{{L}}{}]", "[\\P{{sc=Latn}}-{}]", "[{}b]", "[{}-b]", "[{}-]", "[{}", "[^{}", "[a-{}", "(?:[{}])",

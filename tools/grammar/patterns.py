@@ -19,6 +19,7 @@ from grammar.likeness import (alike_rows, closed_kind_rows, half_pair_rows, like
                               pair_name_rows, text_end_rows)
 from grammar.notations import (class_content_rows, class_reason_rows, cluster_rows, notation_rows, other_class_rows,
                                page_edge_rows, passed_over_rows, sign_code_rows)
+from grammar.shared import extension_rows
 from grammar.sizes import (category_edge_rows, common_pattern_rows, count_end_rows, deep_quantifier_rows, depth_rows,
                            edge_of_row_rows, escape_pair_rows, far_row_rows, far_text_rows, front_row_rows,
                            front_table_rows, language_word_rows, long_literal_rows, long_sides_rows, name_edge_rows,
@@ -66,4 +67,4 @@ def ecma_rows():
                    common_pattern_rows, long_literal_rows, far_text_rows, nested_look_rows, deep_quantifier_rows,
                    count_end_rows, category_edge_rows, name_edge_rows, front_table_rows, name_sequence_rows,
                    escape_pair_rows, depth_rows, row_of_classes_rows, option_in_row_rows, long_sides_rows, far_row_rows,
-                   front_row_rows, unlike_alternative_rows, edge_of_row_rows)
+                   front_row_rows, unlike_alternative_rows, edge_of_row_rows, extension_rows)

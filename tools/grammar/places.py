@@ -369,9 +369,9 @@ def placed_term_rows():
 # Pieces that make a pattern, and pieces that make none.
 RIGHT_PIECES = (
     "a", "\u00e9", "\U0001f600", "/", "\\/", "\\^", "\\0", "\\cA", "\\x41", "\\u0041", "\\u{41}", "\\ud83d\\ude00",
-    "\\p{L}", "\\P{sc=Latn}", "[]", "[^]", "[\\d-]", "[^\\-]", "[a-b-c]", "[\\b]", "()", "(?:)", "(?=)", "(?<!)",
-    "(?<n>a)", "(?<$>a)", "(?<\\u0061>a)", "(?<\u00e9>a)", "(?<a\u200d>a)", "a{2,3}?", "a{0}", "a{1,}", "\\b", "\\B",
-    "^", "$", "|", "a|b")
+    "\\p{L}", "\\P{sc=Latn}", "\\p{scx=Grek}", "[]", "[^]", "[\\d-]", "[^\\-]", "[a-b-c]", "[\\b]", "()", "(?:)",
+    "(?=)", "(?<!)", "(?<n>a)", "(?<$>a)", "(?<\\u0061>a)", "(?<\u00e9>a)", "(?<a\u200d>a)", "a{2,3}?", "a{0}",
+    "a{1,}", "\\b", "\\B", "^", "$", "|", "a|b")
 WRONG_PIECES = (
     "\\-", "\\a", "\\_", "\\ ", "\\\u00e9", "\\9", "\\k", "\\k<a>", "\\c", "\\c1", "\\c_", "\\x", "\\x4", "\\xg1",
     "\\u", "\\u004", "\\u{}", "\\u{110000}", "\\u{g}", "\\u{41", "\\00", "\\01", "\\p", "\\pL", "\\p{}", "\\p{X}",
@@ -384,7 +384,7 @@ WRONG_PIECES = (
 # Pieces that the whole grammar has, and the engine does not take.
 WHOLE_PIECES = (
     "(b)\\1", "\\1(b)", "(?<n>b)\\k<n>", "\\k<n>(?<n>b)", "\\ud83d", "\\ude00", "\\u{D83D}", "[\\ud83d]",
-    "[^\\ude00-\\udfff]", "\\ude00\\ud83d", "\\p{CWKCF}", "\\P{scx=Latn}", "[\\p{scx=Grek}]", "a{5001}", "a{5001,}",
+    "[^\\ude00-\\udfff]", "\\ude00\\ud83d", "\\p{CWKCF}", "[\\P{CWKCF}]", "a{5001}", "a{5001,}",
     "a{0,4294967296}", "(?:a{1000}){1000}")
 # The reasons that are told of some of the pieces that make no pattern; of the others none is.
 TOLD_PIECES = tuple("\\- \\_ \\9 \\k \\k<a> \\p{X} \\p{gc=X} \\p{sc=L} \\p{lu} \\P{Latin} [\\p{X}] [^\\P{X}]".split())

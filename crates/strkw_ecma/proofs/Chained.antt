@@ -1,12 +1,12 @@
 -- How the code finds the chain of a program.
-use Rattle.std.proofs.Common.{◌≡◌, ℕ, zero, suc, ◌+◌, ◌-◌, ◌<◌, ◌≤◌, nat_lt, Bool, true, false, List, [], ◌∷◌, ◌++◌, length, drop}
+use Rattle.std.proofs.Common.{◌≡◌, ℕ, zero, suc, ◌+◌, ◌<◌, ◌≤◌, nat_lt, Bool, true, false, List, [], ◌∷◌, ◌++◌, length, drop}
 use Rattle.std.proofs.Common.{replicate, get_or, Option, Some, refl, sym, ap, ◌∙◌, set, ne_of_lt, drop-cons, drop_of_length-le, get_or-set_same}
 use Rattle.std.proofs.Common.{get_or-set_other, append-nil, arith}
 use Rattle.std.proofs.lemmas.List.{append_assoc}
 use Rattle.strkw_ecma.specs.machine.Chains.{once, repeated, AreChained}
 use Rattle.strkw_ecma.specs.machine.Links.{are_below}
 use Rattle.strkw_ecma.specs.machine.Machine.{class_reads}
-use Rattle.strkw_ecma.specs.machine.Shape.{instructions, are_within}
+use Rattle.strkw_ecma.specs.machine.Shape.{are_within}
 use Rattle.strkw_ecma.specs.declared.links.Often.{Often}
 use Rattle.strkw_ecma.specs.declared.links.Often.TheVariants.{AtMost, AnyTimes, SomeTimes}
 use Rattle.strkw_ecma.specs.declared.code.Class.{Class}

@@ -5,7 +5,7 @@ use Rattle.std.proofs.Common.{drop-drop, arith}
 use Rattle.std.proofs.lemmas.Bool.Decides.{nat_tests}
 use Rattle.std.proofs.lemmas.List.{append_assoc, length-append, length-replicate}
 use Rattle.std.proofs.lemmas.Option.{none-some, same_Some, slice_get_past, slice_get-get_or}
-use Rattle.strkw_ecma.specs.Tree.{class, start, end}
+use Rattle.strkw_ecma.specs.Tree.{start, end}
 use Rattle.strkw_ecma.specs.Glances.{are_told}
 use Rattle.strkw_ecma.specs.Meaning.{Rounds, no_round, a_round, before, is_edge}
 use Rattle.strkw_ecma.specs.Program.{Instruction, assert, program}

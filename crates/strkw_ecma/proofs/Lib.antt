@@ -64,6 +64,7 @@ pub mod Bytes
 pub mod Bitted
 pub mod Named
 pub mod Distinct
+pub mod ScriptLists
 pub mod RunEnds
 pub mod Paged
 pub mod RegexTrees

@@ -7,6 +7,8 @@ use Rattle.ucd_table.specs.Steps.{run_value, unpack}
 use Rattle.ucd_table.proofs.StepsLemmas.{step_value-here, run_value-drop}
 use Rattle.ucd_category.specs.GeneralCategory.{general_category, general_category_number, general_category_from_number}
 use Rattle.ucd_category.proofs.GeneralCategoryLemmas.{general_category_from_number-general_category_number}
+use Rattle.ucd_script.specs.Script.{script, script_number, script_from_number}
+use Rattle.ucd_script.proofs.ScriptLemmas.{script_from_number-script_number}
 use Rattle.strkw_ecma.specs.Tree.{in_set, in_sets}
 use Rattle.strkw_ecma.specs.machine.Columns.{answers}
 use Rattle.strkw_ecma.specs.declared.tree.CharSet.{CharSet}
@@ -23,6 +25,11 @@ pub same_category : (c d : ℕ) → general_category_number (general_category d)
 same_category c d same =
     sym (general_category_from_number-general_category_number (general_category d)) ∙ ap general_category_from_number same
     ∙ general_category_from_number-general_category_number (general_category c)
+
+-- and so have scripts
+pub same_script : (c d : ℕ) → script_number (script d) ≡ script_number (script c) → script d ≡ script c
+same_script c d same =
+    sym (script_from_number-script_number (script d)) ∙ ap script_from_number same ∙ script_from_number-script_number (script c)
 
 -- one more set has both code points or neither, and so have all that are left
 pub set_passed : (sets : List CharSet) (i : ℕ) (none : CharSet) (c d : ℕ) → i < length sets

@@ -19,6 +19,7 @@ use Rattle.strkw_ecma.proofs.Search.{before_next}
 use Rattle.strkw_ecma.proofs.Sights.{ends_right, begins_right}
 use Rattle.strkw_ecma.proofs.Slots.{told_leaves, told_step, step_spots, AreSaid, all_told}
 use Rattle.strkw_ecma.proofs.Steps.{forwards, and_left, and_right, or_case, or_left, or_right}
+use Rattle.strkw_ecma.proofs.Walks.{some_same}
 
 -- lists that are the same begin with the same
 first_of_cons : (c d : ℕ) (xs ys : List ℕ) → c ∷ xs ≡ d ∷ ys → c ≡ d
@@ -278,10 +279,6 @@ module _ (chars : List ℕ) (fs : List Quest) (x : Seeking) (f : Quest) (is : Is
       )
 
 -- rows one behind another
--- what is the same as options is the same
-some_same : {A : Type 0} (x y : A) → Some x ≡ Some y → x ≡ y
-some_same x y e = cc
-
 -- none is no option of something
 none_some : {A : Type 0} {x : A} → None ≡ Some x → ⊥
 none_some e = absurd (true≢false (sym (ap is_some e)))

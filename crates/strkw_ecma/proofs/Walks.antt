@@ -14,8 +14,8 @@ at_place text k next c within is follows =
     drop-cons text k c within ∙ ap (λ (d : ℕ). d ∷ drop (suc k) text) (sym is) ∙ ap (λ (n : ℕ). c ∷ drop n text) (sym follows)
 
 -- what is the same as options is the same
-some_is : {A : Type 0} (x y : A) → Some x ≡ Some y → x ≡ y
-some_is x y e = cc
+pub some_same : {A : Type 0} (x y : A) → Some x ≡ Some y → x ≡ y
+some_same x y e = cc
 
 -- one turn of the walk over a text, at its first character
 module _ (column : ℕ → Option ℕ) (end : ℕ) (entries text rest : List ℕ) (row c k entry : ℕ) (answer : Option Bool)
@@ -65,7 +65,7 @@ module _ (column : ℕ → Option ℕ) (end : ℕ) (entries : List ℕ) (At : �
   -- the search goes on where nothing is found
   one_turn : (x l m : Bool) (o : Option Bool) (answer : Bool) → x ≡ l → (l ≡ false → o ≡ Some answer → answer ≡ m)
       → (if x then Some true else o) ≡ Some answer → answer ≡ (l || m)
-  one_turn x true m o answer e f h = sym (some_is true answer (sym (rw e refl) ∙ h))
+  one_turn x true m o answer e f h = sym (some_same true answer (sym (rw e refl) ∙ h))
   one_turn x false m o answer e f h = f refl (sym (rw e refl) ∙ h)
 
   -- where the walk comes to an answer, the character has a column, and what follows from that holds
@@ -77,7 +77,7 @@ module _ (column : ℕ → Option ℕ) (end : ℕ) (entries : List ℕ) (At : �
   -- from a row that stands for a state, the walk comes to what the search from there does
   pub walks : (text : List ℕ) (row : ℕ) (p : Pattern) (b : Option ℕ) (answer : Bool) → At row p b
       → walk column end entries row text ≡ Some answer → answer ≡ search_from p b text
-  walks [] row p b answer at h = sym (some_is _ answer h) ∙ ends row p b at
+  walks [] row p b answer at h = sym (some_same _ answer h) ∙ ends row p b at
   walks (c ∷ cs) row p b answer at h =
       at_column c _ (column c) answer _ refl
       (λ k is.

@@ -1,5 +1,6 @@
 -- Properties of characters in a pattern: `p{ }` and `P{ }` of CharacterClassEscape (ECMA-262 2024,
--- section 22.2.1), for the properties General_Category and Script, and for binary properties.
+-- section 22.2.1), for the properties General_Category, Script and Script_Extensions, and for binary
+-- properties.
 use Rattle.std.specs.Prelude.{◌≡◌, ℕ, Bool, true, false, not, ◌&&◌, ◌||◌, ◌==◌, nat_le, List, []}
 use Rattle.std.specs.Prelude.{◌∷◌, ◌++◌, map, filter_map, bytes_eq, codes, Option, Some, None}
 use Rattle.std.specs.Prelude.{option_map, is_some, if◌then◌else◌}
@@ -11,6 +12,7 @@ use Rattle.ucd_category.specs.GeneralCategory.{general_category, general_categor
 use Rattle.ucd_category.specs.GeneralCategoryGroup.{in_group}
 use Rattle.ucd_category.specs.declared.GeneralCategory.TheVariants.{Unassigned}
 use Rattle.ucd_script.specs.Script.{script, script_eq}
+use Rattle.ucd_script.specs.ScriptExtensions.{has_script_extension}
 use Rattle.ucd_script.specs.declared.Script.{Script as ScriptValue}
 use Rattle.ucd_sets.specs.Loose.{value_named}
 use Rattle.ucd_sets.specs.Names.{category_names, script_names}
@@ -21,6 +23,7 @@ use Rattle.strkw_ecma.specs.BinaryNames.{binary_names}
 use Rattle.strkw_ecma.specs.declared.properties.Property.{Property}
 use Rattle.strkw_ecma.specs.declared.properties.Property.TheVariants.{Any, Ascii, Assigned, Binary}
 use Rattle.strkw_ecma.specs.declared.properties.Property.TheVariants.{Category, Group, Script}
+use Rattle.strkw_ecma.specs.declared.properties.Property.TheVariants.{ScriptExtensions}
 
 -- the character has it
 abbrev pub has_property : Property → ℕ → Bool
@@ -31,6 +34,7 @@ has_property (Binary p) c = has_binary_property p c
 has_property (Category v) c = general_category_eq (general_category c) v
 has_property (Group g) c = in_group g (general_category c)
 has_property (Script s) c = script_eq (script c) s
+has_property (ScriptExtensions s) c = has_script_extension s c
 
 -- of the sets that the kit names beside the categories, `Any`, `ASCII` and `Assigned` are none
 abbrev pub category_of : Set → Option Property
@@ -60,14 +64,16 @@ binary_row row = (codes row.0, row.1)
 unfoldable pub binary_named : List ℕ → Option Property
 binary_named = value_named (map binary_row binary_names)
 
--- UnicodeMatchProperty, of the two properties that have values: by their names in
--- PropertyAliases.txt
+-- UnicodeMatchProperty, of the properties that have values: by their names in PropertyAliases.txt.
+-- The values of Script_Extensions are those of Script
 abbrev pub value_of : List ℕ → List ℕ → Option Property
 value_of name value =
     if bytes_eq name (codes "General_Category")
     || bytes_eq name (codes "gc") then category_named value
     else if bytes_eq name (codes "Script")
     || bytes_eq name (codes "sc") then option_map Script (script_value_named value)
+    else if bytes_eq name (codes "Script_Extensions")
+    || bytes_eq name (codes "scx") then option_map ScriptExtensions (script_value_named value)
     else None
 
 -- UnicodePropertyValueExpression: LoneUnicodePropertyNameOrValue, or a property's name and a value

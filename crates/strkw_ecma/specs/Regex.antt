@@ -154,14 +154,11 @@ IsRepetition (from_to ds es) = AreDecimal ds × AreDecimal es × (number ds ≤ 
 abbrev pub IsEscape : Code → Type 0
 IsEscape k = AreCodeDigits k × (code_value k ≤ max_code_point)
 
--- names of the standard that the engine does not take: a binary property, and Script_Extensions
--- with the values of Script (sections 22.2.2.9.1 and 22.2.2.9.2)
+-- the binary property of the standard that the engine does not take (section 22.2.2.9.1)
 abbrev pub is_tableless : Expression → Bool
 is_tableless (alone v) =
     bytes_eq v (codes "Changes_When_NFKC_Casefolded") || bytes_eq v (codes "CWKCF")
-is_tableless (valued n v) =
-    (bytes_eq n (codes "Script_Extensions") || bytes_eq n (codes "scx"))
-    && is_some (property_of (valued (codes "Script") v))
+is_tableless (valued n v) = false
 
 -- UnicodePropertyValueExpression
 abbrev pub is_property : Expression → Bool

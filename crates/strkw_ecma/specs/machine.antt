@@ -1,4 +1,5 @@
 -- How a pattern is read and a text searched: what the code holds, step by step.
+pub mod ScriptLists
 pub mod Marks
 pub mod Shape
 pub mod Walk

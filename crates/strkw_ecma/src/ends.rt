@@ -3,12 +3,14 @@
 ghost use Rattle.std.specs.Prelude.{◌≡◌, ◌≤◌, ◌<◌, ℕ, drop};
 ghost use Rattle.ucd_table.specs.Steps.{run_value, IsPartition};
 ghost use Rattle.ucd_category.specs.GeneralCategory.{general_category};
+ghost use Rattle.ucd_script.specs.ScriptExtensions.{script_extensions};
 ghost use Rattle.ucd_sets.specs.Property.{has_property as has_binary_property};
 ghost use Rattle.strkw_ecma.specs.Properties.{has_property};
 ghost use Rattle.strkw_ecma.specs.Tree.{in_set, in_sets};
 ghost use Rattle.strkw_ecma.specs.machine.Columns.{answers as spec_answers};
 ghost use Rattle.strkw_ecma.specs.declared.tree.CharSet.TheVariants.{Range};
 
+use crate::extensions::list_runs;
 use crate::properties::Property;
 use crate::tree::CharSet;
 use ucd_category::GeneralCategory;
@@ -86,6 +88,7 @@ fn binary_end(property: BinaryProperty, c: u32) -> u32
 pub(crate) struct Ends {
     category: usize,
     script: usize,
+    list: usize,
 }
 
 impl Ends {
@@ -93,6 +96,7 @@ impl Ends {
         Ends {
             category: 0,
             script: 0,
+            list: 0,
         }
     }
 
@@ -104,6 +108,18 @@ impl Ends {
             → general_category d ≡ general_category c }
     {
         value_end(GeneralCategory::runs(), &mut self.category, c)
+    }
+
+    // Where the code points end that have the scripts of this one by Script_Extensions.
+    fn extensions_end(&mut self, c: u32) -> u32
+        requires { c < 0x110000 }
+        ensures beyond { c < result }
+        ensures alike { (d : ℕ) → c ≤ d → d < result → d < 0x110000
+            → script_extensions d ≡ script_extensions c }
+    {
+        let own = value_end(Script::runs(), &mut self.script, c);
+        let listed = value_end(list_runs(), &mut self.list, c);
+        own.min(listed)
     }
 
     // Where the code points end that have a property, or lack it, as this one does.
@@ -119,6 +135,7 @@ impl Ends {
             Property::Binary(binary) => binary_end(binary, c),
             Property::Assigned | Property::Category(_) | Property::Group(_) => self.category_end(c),
             Property::Script(_) => value_end(Script::runs(), &mut self.script, c),
+            Property::ScriptExtensions(_) => self.extensions_end(c),
         }
     }
 

@@ -16,6 +16,7 @@ mod columns;
 mod counts;
 mod ends;
 mod engine;
+mod extensions;
 mod finder;
 mod finding;
 mod front;

@@ -8,6 +8,7 @@ ghost use Rattle.strkw_ecma.specs.machine.PropertyReading.{property_next, on_equ
 ghost use Rattle.strkw_ecma.specs.Refusals.{is_written as spec_is_written, is_unknown as spec_is_unknown};
 ghost use Rattle.strkw_ecma.specs.machine.Parts.{expression_of, part_of, property_read_of};
 
+use crate::extensions::has_extension;
 use crate::values::{
     BINARY_NAMES, BINARY_PROPERTIES, CATEGORIES, CATEGORY_NAMES, SCRIPT_NAMES, SCRIPTS,
 };
@@ -17,7 +18,8 @@ use ucd_script::Script;
 use ucd_sets::BinaryProperty;
 use ucd_table::contains;
 
-/// A binary property, a value of the property General_Category, a group of these, or a value of the property Script.
+/// A binary property, a value of the property General_Category, a group of these, or a value of the property Script or
+/// Script_Extensions.
 /// Of the binary ones all code points have `Any`, those below U+0080 `Ascii`, and those with a category `Assigned`.
 #[derive(Clone, Copy)]
 pub enum Property {
@@ -28,6 +30,7 @@ pub enum Property {
     Category(GeneralCategory),
     Group(GeneralCategoryGroup),
     Script(Script),
+    ScriptExtensions(Script),
 }
 
 impl Property {
@@ -47,6 +50,7 @@ impl Property {
                 == category.number(),
             Property::Group(group) => group.contains(GeneralCategory::for_char(c)),
             Property::Script(script) => Script::for_char(c).number() == script.number(),
+            Property::ScriptExtensions(script) => has_extension(script, c),
         }
     }
 }
@@ -91,6 +95,9 @@ fn value_of(name: &[u8], value: &[u8]) -> Option<Property>
     }
     if name == b"Script".as_slice() || name == b"sc".as_slice() {
         return Some(Property::Script(script_named(value)?));
+    }
+    if name == b"Script_Extensions".as_slice() || name == b"scx".as_slice() {
+        return Some(Property::ScriptExtensions(script_named(value)?));
     }
     None
 }

@@ -19,6 +19,9 @@ fn is_same_property(one: Property, other: Property) -> bool
         (Property::Category(one), Property::Category(other)) => one.number() == other.number(),
         (Property::Group(one), Property::Group(other)) => one == other,
         (Property::Script(one), Property::Script(other)) => one.number() == other.number(),
+        (Property::ScriptExtensions(one), Property::ScriptExtensions(other)) => {
+            one.number() == other.number()
+        }
         _ => false,
     }
 }

@@ -1,6 +1,6 @@
 //! How a property is recognised, in a pattern and in a class.
 
-ghost use Rattle.std.specs.Prelude.{◌≡◌, ◌||◌, bytes_eq, codes, Some, IfOk};
+ghost use Rattle.std.specs.Prelude.{◌≡◌, Some, IfOk};
 ghost use Rattle.strkw_ecma.specs.Regex.{is_property as spec_is_property};
 ghost use Rattle.strkw_ecma.specs.machine.PropertyReading.{property_next};
 ghost use Rattle.strkw_ecma.specs.machine.Parts.{part_of, expression_of};
@@ -12,33 +12,19 @@ use super::{Mode, Recogniser};
 use crate::properties::{Expression, PropertyPart, PropertyRead};
 use std::alloc::{AllocError, Global};
 
-// Whether it is the name of the property Script_Extensions.
-fn is_extensions(name: &[u8]) -> bool
-    ensures { result ≡ (bytes_eq name.now (codes "Script_Extensions")
-        || bytes_eq name.now (codes "scx")) }
-{
-    name == b"Script_Extensions".as_slice() || name == b"scx".as_slice()
-}
-
-// Whether the standard has the property. The engine has no table of those that are named here.
-fn is_property(alloc: Global, expression: Expression) -> Result<bool, AllocError>
-    ensures { IfOk result (λ known. known ≡ spec_is_property (expression_of expression)) }
+// Whether the standard has the property. The engine has no table of the one that is named here.
+fn is_property(expression: &Expression) -> bool
+    ensures { result ≡ spec_is_property (expression_of expression.now) }
 {
     if expression.property().is_some() {
-        return Ok(true);
+        return true;
     }
     match expression {
         Expression::Alone(name) => {
             let name = name.as_slice();
-            Ok(name == b"Changes_When_NFKC_Casefolded".as_slice() || name == b"CWKCF".as_slice())
+            name == b"Changes_When_NFKC_Casefolded".as_slice() || name == b"CWKCF".as_slice()
         }
-        Expression::Valued(name, value) => {
-            if !is_extensions(&name) {
-                return Ok(false);
-            }
-            let script = Expression::Valued(Vec::from_slice(alloc, b"Script")?, value);
-            Ok(script.property().is_some())
-        }
+        Expression::Valued(..) => false,
     }
 }
 
@@ -60,7 +46,7 @@ impl Recogniser {
             }
             PropertyRead::Ends(_, expression) => {
                 self.add(Last::Atom);
-                is_property(alloc, expression)
+                Ok(is_property(&expression))
             }
         }
     }
@@ -83,7 +69,7 @@ impl Recogniser {
                 Ok(true)
             }
             PropertyRead::Ends(_, expression) => {
-                Ok(is_property(alloc, expression)? && self.set_class(class.with_item(Item::Set)))
+                Ok(is_property(&expression) && self.set_class(class.with_item(Item::Set)))
             }
         }
     }
