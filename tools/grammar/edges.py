@@ -6,7 +6,7 @@ from grammar.rows import ASCII, LETTERS, MORE_TIMES, characters, in_forms, never
 from grammar.properties import (BINARIES, NAME_CHARACTERS, NAME_PARTS, NAME_STARTS, PATTERNS, SYNTAX, escaped,
                                 is_name_part, is_name_start, one_letter_off)
 from grammar.looks import stands_ahead, stands_behind
-from grammar.limits import NEEDLESSLY_ESCAPED, NOT_TAKEN, REASONS, needless
+from grammar.limits import NEEDLESSLY_ESCAPED, NOT_A_PATTERN, REASONS, needless
 from grammar.grammar import WHOLE_PATTERNS
 
 # Names of groups that are nearly alike: in another letter case, normal form, width or script, by the same last bits of
@@ -86,7 +86,7 @@ def far_reason_rows():
     """Reasons before and behind what else is wrong, and far from the beginning."""
     yield "each reason before what makes no pattern, and behind many terms that do: it is what stands first"
     for piece, why in REASONS.items():
-        if why != NOT_TAKEN:
+        if why != NOT_A_PATTERN:
             yield refusals(why, [f"{piece}{behind}" for behind in BROKEN_BEHIND])
             yield refusals(why, [f"{before}{piece}" for before in FAR_BEFORE])
             if "(" not in piece:
@@ -129,7 +129,7 @@ def off_name_rows():
     yield "characters past ASCII in the braces of a property, behind a backslash and behind a back reference"
     wide = "\u00e9\u017f\u212a\u0391\u0661\uff11\uff2c\u4e00\U0001d7ce\U00010400"
     forms = ("\\p{{{}}}", "\\p{{L{}}}", "[\\P{{gc={}}}]", "\\p{{{}=Lu}}", "\\{}", "[\\{}]")
-    yield refusals(NOT_TAKEN, in_forms(forms, wide))
+    yield refusals(NOT_A_PATTERN, in_forms(forms, wide))
     forms = {"(a)\\1{}": True, "(a)\\{}": False, "\\k<{}>(?<{}": False, "(?<a>)\\k{}a>": False}
     expected = {form.format(one, one): is_right for one in wide for form, is_right in forms.items()}
     yield texts(WHOLE_PATTERNS, expected, expected.get)

@@ -144,7 +144,8 @@ def limits_of_patterns():
 
 # What stands for itself behind a backslash without the flag `u`: ASCII but letters, digits, blanks, SyntaxCharacter, `/`.
 NEEDLESSLY_ESCAPED = "!\"#%&',-:;<=>@_`~"
-NOT_TAKEN = "it is no pattern of ECMA-262 in Unicode mode, or of a part of it that is not taken here"
+NOT_A_PATTERN = "it is no pattern of ECMA-262 in Unicode mode"
+NOT_TAKEN = "it has a part of ECMA-262 that is not taken here"
 
 
 def needless(character):
@@ -159,11 +160,11 @@ def refusal_rows():
     yield refusals("it has a back reference", in_forms(forms, "123456789k"))
     for character in NEEDLESSLY_ESCAPED:
         yield refusals(needless(character), in_forms(forms, character))
-    yield refusals(NOT_TAKEN, [f"[\\{character}]" for character in NEEDLESSLY_ESCAPED if character != "-"])
-    yield refusals(NOT_TAKEN, in_forms(forms, "agyzAGYZ \u00e9\n"))
+    yield refusals(NOT_A_PATTERN, [f"[\\{character}]" for character in NEEDLESSLY_ESCAPED if character != "-"])
+    yield refusals(NOT_A_PATTERN, in_forms(forms, "agyzAGYZ \u00e9\n"))
     told = SYNTAX + NEEDLESSLY_ESCAPED + DIGITS + "bBdDfknrsStvwW"
     others = [character for character in ASCII if character not in told]
-    yield refusals(NOT_TAKEN, in_forms(("\\{}", "(a)\\{}", "(?:\\{})", "a|\\{}"), others))
+    yield refusals(NOT_A_PATTERN, in_forms(("\\{}", "(a)\\{}", "(?:\\{})", "a|\\{}"), others))
     yield refusals("taken", in_forms(forms, "/^$.*+?()[]{}|\\"))
     forms = ("(?{}a)", "a(?{})", "(?:(?{}))", "(?<n>(?{}a))", "a|(?{}b)", "(?<=(?{}a))", "(?<!a)(?{}b)")
     yield refusals("taken", in_forms(forms, ("=", "!", "<=", "<!")))
@@ -186,23 +187,42 @@ def refusal_rows():
     forms = ("\\p{{{}}}", "\\P{{{}}}", "[\\p{{{}}}]", "a\\p{{{}}}b")
     yield refusals("it has a property that is not known here", in_forms(forms, names))
     for letters, why in ((LETTERS + DIGITS + "_", "it has a property that is not known here"),
-                         (but(LETTERS + DIGITS + "_=}"), NOT_TAKEN)):
+                         (but(LETTERS + DIGITS + "_=}"), NOT_A_PATTERN)):
         yield refusals(why, in_forms(("\\p{{a{}}}", "[\\P{{a{}b}}]", "\\p{{gc=a{}}}"), letters))
     above = [(atom, count + 1) for atom, count in most.items() if count < MOST_TIMES]
     yield refusals(MORE_STEPS, [f"{atom}{{{n},{n}}}" for atom, n in above])
-    yield refusals(NOT_TAKEN, [pattern for pattern, is_taken in BRACES.items() if not is_taken])
+    yield refusals(NOT_A_PATTERN, [pattern for pattern, is_taken in BRACES.items() if not is_taken])
     names = ("a=b", "a!b", "", "a b", "1", "a=", "\\x61", "\\u{}", "\\u006", "\\", "a\\", "a\\u", "a\\u{61", "-", "a-")
     broken = [f"(?<{name}" for name in names] + ["(?", "(?a", "(?i", "(?;", "(?9a)", "(?\"a)"]
-    yield refusals(NOT_TAKEN, [*broken, *(f"{pattern}>x)" for pattern in broken)])
+    yield refusals(NOT_A_PATTERN, [*broken, *(f"{pattern}>x)" for pattern in broken)])
     unfinished = [text[:end] for text, least in UNFINISHED for end in range(least, len(text))]
-    yield refusals(NOT_TAKEN, unfinished)
+    yield refusals(NOT_A_PATTERN, unfinished)
     ends = ("(*", "(+a)", "(]", "(a", "(?a)", "(?:*", "(?=+", "(?<n>*", "(?<=*", "(?<1>", "(?<>a)")
     for groups in (248, 249):
-        yield refusals(NOT_TAKEN, ["(" * groups + end for end in ends])
+        yield refusals(NOT_A_PATTERN, ["(" * groups + end for end in ends])
     deeper = ("(*", "(+a)", "(]", "(a", "()", "(?:*", "(?=+", "(?!a)", "(?<n>*", "(?<=*", "(?<!a)")
     yield refusals("its groups are more than 250 deep", ["(" * 250 + end for end in deeper])
-    yield refusals(NOT_TAKEN, ["(" * 250 + end for end in ("(?a)", "(?<1>", "(?<>a)", "*", "]", "a")])
+    yield refusals(NOT_A_PATTERN, ["(" * 250 + end for end in ("(?a)", "(?<1>", "(?<>a)", "*", "]", "a")])
     yield from rows_of_two_reasons()
+    yield from surrogate_rows()
+
+
+def surrogate_rows():
+    """Escapes of surrogates alone, which make a pattern that is not taken; beside what makes none, none."""
+    alone = [form.format(digits) for code in (0xD800, 0xD83D, 0xDBFF, 0xDC00, 0xDE00, 0xDFFF)
+             for digits in (f"{code:x}", f"{code:X}") for form in ("\\u{}", "\\u{{{}}}", "\\u{{0{}}}")]
+    forms = ("{}", "a{}b", "{}*", "(?:{}){{2}}", "(?<n>{})", "a|{}", "(?={})", "(?<!{})b", "^{}$", "[{}]", "[^{}]",
+             "[a{}]", "[{}-\\uffff]", "[a-{}]", "{}\\cA", "(a){}\\1", "{0}{0}", "[\\d{}]", "{}\\p{{CWKCF}}",
+             "{}.{{5001}}")
+    yield refusals(NOT_TAKEN, in_forms(forms, alone))
+    forms = ("{}(", "{}\\1", "[{}", "[{}-a]", "[\\d-{}]", "{}\\p{{Foo}}", "(?<{}>a)", "{}\\k<n>", "(?{}a)", "{}**",
+             "{}]", "{}\\!")
+    yield refusals(NOT_A_PATTERN, in_forms(forms, alone))
+    pairs = ("\\u{d83d}\\u{de00}", "\\ud83d\\u{de00}", "\\u{d83d}\\ude00", "\\ude00\\ud83d", "\\ud83d(?:\\ude00)",
+             "(?:\\ud83d)\\ude00", "\\ud83d|\\ude00", "[\\ude00\\ud83d]", "[\\ud83d-\\ude00]", "[\\u{d83d}\\u{de00}]")
+    yield refusals(NOT_TAKEN, pairs)
+    joined = ("\\ud83d\\ude00", "[\\ud83d\\ude00]", "(?<n>\\uD83D\\uDE00)", "[\\ud83d\\ude00-\\udbff\\udfff]")
+    yield refusals("taken", joined)
 
 
 # Pieces of patterns, each with the reason for which a pattern is not taken that has it.
@@ -210,8 +230,8 @@ REASONS = {
     "\\1": "it has a back reference", "\\k<n>": "it has a back reference",
     "\\!": "\\! is valid only without the flag u: write ! for it",
     "\\p{Foo}": "it has a property that is not known here", "[\\P{Foo}]": "it has a property that is not known here",
-    "a{5001}": MORE_TIMES, "a{0,5001}": MORE_TIMES, "(?:abc){1734}": MORE_STEPS, "]": NOT_TAKEN, "a**": NOT_TAKEN,
-    "(" * 251 + "a": "its groups are more than 250 deep"}
+    "a{5001}": MORE_TIMES, "a{0,5001}": MORE_TIMES, "(?:abc){1734}": MORE_STEPS, "]": NOT_A_PATTERN,
+    "a**": NOT_A_PATTERN, "(" * 251 + "a": "its groups are more than 250 deep"}
 
 
 def rows_of_two_reasons():
@@ -223,10 +243,10 @@ def rows_of_two_reasons():
         yield refusals(why, [f"{whole}{first}", f"{first}{whole}", f"(?:{whole})(?={first})", f"(?<n>a)(?<n>b){first}"])
     unlike = ("(?<n>a)(?<n>b){}", "{}(?<n>a)(?<n>b)", "(?<n>a){}(?<n>b)", "\\00{}", "{}\\00", "({}", "{})", "{}[",
               "[{}", "{}\\", "{}(?", "{}a{{", "{}\\p{{", "*{}", "{}**", "{}(?<n", "{}[\\!]", "{}[b-a]", "{}(?<=", "{}]")
-    yield refusals(NOT_TAKEN, [form.format(whole) for form in unlike])
+    yield refusals(NOT_A_PATTERN, [form.format(whole) for form in unlike])
     forms = ("(?<{}>x)", "(?<a{}>x)", "(?<{}a>x)", "[{}]", "a{{{}}}", "\\p{{{}}}", "(?{}a)", "\\x{}", "\\u{{{}}}",
              "\\c{}")
-    yield refusals(NOT_TAKEN, in_forms(forms, ("\\!", "\\1", "\\k", "\\~")))
+    yield refusals(NOT_A_PATTERN, in_forms(forms, ("\\!", "\\1", "\\k", "\\~")))
     long = [{"pattern": [[piece, 1], ["a", 2000]]} for piece in (*REASONS, whole)]
     long += [{"pattern": [["a", 2000], [piece, 1]]} for piece in (*REASONS, whole)]
     yield {"ask": "refusals", "of": "it has more than 2000 characters", "long": long}, len(long)

@@ -4,7 +4,7 @@ import unicodedata
 
 from grammar.rows import DIGITS, in_forms, never, refusals, searches, texts
 from grammar.properties import LINE_ENDS, PATTERNS, SYNTAX, escaped
-from grammar.limits import NOT_TAKEN
+from grammar.limits import NOT_A_PATTERN, NOT_TAKEN
 from grammar.grammar import HARDLY_SEEN, WHOLE_PATTERNS
 from grammar.edges import JOINED
 from grammar.likeness import alone_in_pattern, quoted
@@ -199,8 +199,12 @@ def class_reason_rows():
     yield refusals("it has a property that is not known here", in_forms(PLACES_IN_CLASSES, UNKNOWN_PROPERTIES))
     yield "and what makes no pattern before it is told first"
     spoilt = ("[b-a{}]", "[\\!{}]", "[\\d-a{}]", "[a-\\d{}]", "[\\c1{}]", "[\\u{{}}{}]", "[\\1{}]",
-              "[\\k{}]", "[\\x4{}]", "[\\p{{L{}]", "]{}", "[^b-a{}]", "[\\B{}]", "[\\ud83d{}]", "[\\u{{110000}}{}]")
-    yield refusals(NOT_TAKEN, in_forms(spoilt, UNKNOWN_PROPERTIES))
+              "[\\k{}]", "[\\x4{}]", "[\\p{{L{}]", "]{}", "[^b-a{}]", "[\\B{}]", "[\\u{{110000}}{}]")
+    yield refusals(NOT_A_PATTERN, in_forms(spoilt, UNKNOWN_PROPERTIES))
+    # Behind a surrogate alone the one of them that ECMA-262 knows makes a pattern.
+    yield refusals(NOT_TAKEN, ["[\\ud83d\\p{CWKCF}]"])
+    unknown = [escape for escape in UNKNOWN_PROPERTIES if escape != "\\p{CWKCF}"]
+    yield refusals(NOT_A_PATTERN, in_forms(("[\\ud83d{}]",), unknown))
 
 
 # Code points at the ends of 64, 4,096 and more, where the bytes of a text are others.

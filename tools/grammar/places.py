@@ -6,7 +6,7 @@ from grammar.rows import (DIGITS, MANY_TIMES, MORE_STEPS, MORE_STEPS_OF_ALL, MOR
                           WHITE_SPACE, in_forms, long_searches, never, refusals, searches, texts)
 from grammar.properties import LINE_ENDS, PATTERNS, class_rows, is_no_word, is_surrogate, is_word
 from grammar.looks import in_python
-from grammar.limits import NOT_TAKEN, REASONS
+from grammar.limits import NOT_A_PATTERN, REASONS
 from grammar.grammar import WHOLE_PATTERNS
 
 # Terms that read a `b` in each match, and terms that do not.
@@ -397,7 +397,7 @@ def placed_piece_rows():
         yield texts(of, in_forms(PLACES_OF_TERMS, RIGHT_PIECES), lambda text: True)
         yield texts(of, in_forms(PLACES_OF_TERMS, WRONG_PIECES), never)
     untold = [piece for piece in WRONG_PIECES if piece not in TOLD_PIECES]
-    yield refusals(NOT_TAKEN, in_forms(PLACES_OF_TERMS, untold))
+    yield refusals(NOT_A_PATTERN, in_forms(PLACES_OF_TERMS, untold))
     yield texts(PATTERNS, in_forms(PLACES_OF_TERMS, WHOLE_PIECES), never)
     yield texts(WHOLE_PATTERNS, in_forms(PLACES_OF_TERMS, WHOLE_PIECES), lambda text: True)
 

@@ -1,7 +1,7 @@
 -- What is told of a character that the reader refuses is so.
 use Rattle.std.proofs.Common.{◌≡◌, inl, inr, ℕ, suc, ◌<◌, ◌≤◌, ◌==◌, ◌++◌, Bool, true, false, List, [], ◌∷◌, map, length, drop, get_or, Option, Some, None}
 use Rattle.std.proofs.Common.{if◌then◌else◌, option_map, nat_lt, nat_le, refl, sym, ap, subst, ◌∙◌, true≢false, append_assoc}
-use Rattle.std.specs.Prelude.{is_some}
+use Rattle.std.specs.Prelude.{is_some, IfSome}
 use Rattle.std.proofs.lemmas.List.{length-map}
 use Rattle.std.proofs.lemmas.Bool.{le-leb, leb-false, ltb-false}
 use Rattle.std.specs.Str.{byte}
@@ -71,17 +71,17 @@ one_behind : (a m : List ℕ) (c : ℕ) (rest text : List ℕ) → (a ++ m) ++ c
 one_behind a m c rest text e = ap (λ z. a ++ z) (append_assoc m (c ∷ []) rest) ∙ sym (append_assoc a m (c ∷ rest)) ∙ e
 
 -- a refusal told only under a test is a reason, if it is one where the test holds
-told_so : (text : List ℕ) (r : PatternRefusal) (b : Bool) → (b ≡ true → IsReason text r) → IsReason text (told_if b r)
+told_so : (text : List ℕ) (r : PatternRefusal) (b : Bool) → (b ≡ true → IsReason text r) → IfSome (told_if b r) (IsReason text)
 told_so text r false f = tt
 told_so text r true f = f refl
 
 -- what is told of a character behind a backslash that stands where a term may is so
-escape_told : (text : List ℕ) (c : ℕ) → HasTerm (byte "\\" ∷ c ∷ []) text → IsReason text (escape_refusal c)
+escape_told : (text : List ℕ) (c : ℕ) → HasTerm (byte "\\" ∷ c ∷ []) text → IfSome (escape_refusal c) (IsReason text)
 escape_told text c has = by_test (is_reference c) refl
   where
     -- the same by whether it is a reference
     by_test : (b : Bool) → is_reference c ≡ b
-        → IsReason text (if b then BackReference else told_if (is_needlessly_escaped c) (IdentityEscape c))
+        → IfSome (if b then Some BackReference else told_if (is_needlessly_escaped c) (IdentityEscape c)) (IsReason text)
     by_test true is = (c, is, has)
     by_test false is = told_so text (IdentityEscape c) (is_needlessly_escaped c) (λ told. (told, has))
 
@@ -98,7 +98,7 @@ when_none true t e = absurd (not_some t e)
 -- where a count is refused behind the last term, what is told of it is so
 term_told : (outer : Outer trees) (l : Level trees) (x : Last trees) → AreLevels outer.groups → IsLevel (length outer.groups) l → IsLast (length outer.groups) x
     → (q : Quantifier) (rest text : List ℕ) → with_count (standing outer l x) x q ≡ None → (before outer l x ++ quantifier_spelling q) ++ rest ≡ text
-    → IsReason text (term_refusal (last_image x))
+    → IfSome (term_refusal (last_image x)) (IsReason text)
 term_told outer l none f g h q rest text refused e = tt
 term_told outer l (counted (a, p)) f g h q rest text refused e = tt
 term_told outer l (atom a) f g h q rest text refused e =
@@ -149,12 +149,12 @@ module _ (outer : Outer trees) (l : Level trees) (x : Last trees) (f : AreLevels
 
   -- what is told of the depth behind an opening parenthesis is so
   depth_told : (before outer l x ++ byte "(" ∷ []) ++ c ∷ rest ≡ text
-      → IsReason text (one_deeper (nat_lt (length (map around outer.groups)) max_nesting))
+      → IfSome (one_deeper (nat_lt (length (map around outer.groups)) max_nesting)) (IsReason text)
   depth_told e =
-      subst (λ n. IsReason text (one_deeper (nat_lt n max_nesting))) (sym (length-map outer.groups around)) (by_depth _ refl)
+      subst (λ n. IfSome (one_deeper (nat_lt n max_nesting)) (IsReason text)) (sym (length-map outer.groups around)) (by_depth _ refl)
     where
       -- the same by whether one group more may be open
-      by_depth : (b : Bool) → nat_lt (length outer.groups) max_nesting ≡ b → IsReason text (one_deeper b)
+      by_depth : (b : Bool) → nat_lt (length outer.groups) max_nesting ≡ b → IfSome (one_deeper b) (IsReason text)
       by_depth true is = tt
       by_depth false is =
           too_deep (of_group capturing) tt (before outer l x, c ∷ rest, begins, regroup (before outer l x) (byte "(" ∷ []) (c ∷ rest) text e) is
@@ -166,7 +166,7 @@ module _ (outer : Outer trees) (l : Level trees) (x : Last trees) (f : AreLevels
 
   -- what is told of a character that is refused behind `(?` is so
   extension_told : (k : Extension) → char_of_extension k c ≡ c → on_extension (standing outer l x) k ≡ None
-      → (before outer l x ++ byte "(" ∷ byte "?" ∷ []) ++ c ∷ rest ≡ text → IsReason text (extension_refusal k)
+      → (before outer l x ++ byte "(" ∷ byte "?" ∷ []) ++ c ∷ rest ≡ text → IfSome (extension_refusal k) (IsReason text)
   extension_told uncaptured is refused e =
       too_deep (of_group plain_group) tt
       (subst (λ z. HasTermWithin (length outer.groups) (byte "(" ∷ byte "?" ∷ z ∷ []) text) (sym is) (term_behind (byte "(" ∷ byte "?" ∷ []) e))
@@ -182,7 +182,7 @@ module _ (outer : Outer trees) (l : Level trees) (x : Last trees) (f : AreLevels
 
   -- what is told of a character that is refused behind `(?<` and a part of a name is so
   name_told : (n : List NameChar) (k : NameToken) → char_of_name k c ≡ c → IsNamePart n → on_naming (standing outer l x) n c k ≡ None
-      → (before outer l x ++ name_text n) ++ c ∷ rest ≡ text → IsReason text (name_refusal (name_value n) c k)
+      → (before outer l x ++ name_text n) ++ c ∷ rest ≡ text → IfSome (name_refusal (name_value n) c k) (IsReason text)
   name_told [] name_end is w refused e = tt
   name_told [] name_backslash is w refused e = tt
   name_told [] name_equals is w refused e =
@@ -211,7 +211,7 @@ module _ (outer : Outer trees) (l : Level trees) (x : Last trees) (f : AreLevels
 
   -- what is told of a character that is refused in the first number of a count is so
   low_told : (o : Option (List ℕ)) (k : CountToken) → count_token c ≡ k → char_of_count k c ≡ c → MayBeNumber o → on_low (standing outer l x) o c k ≡ None
-      → (before outer l x ++ byte "{" ∷ value_or [] o) ++ c ∷ rest ≡ text → IsReason text (count_refusal (last_image x) (low (option_map number o)) k)
+      → (before outer l x ++ byte "{" ∷ value_or [] o) ++ c ∷ rest ≡ text → IfSome (count_refusal (last_image x) (low (option_map number o)) k) (IsReason text)
   low_told o digit token is w refused e =
       let ds = value_or [] o in (
         ds ++ c ∷ [],
@@ -231,7 +231,7 @@ module _ (outer : Outer trees) (l : Level trees) (x : Last trees) (f : AreLevels
 
   -- what is told where a count of two numbers is refused at the brace that ends it is so
   range_told : (ds es : List ℕ) (b : Bool) → when b (with_count (standing outer l x) x (from_to ds es)) ≡ None → byte "}" ≡ c
-      → (before outer l x ++ byte "{" ∷ (ds ++ byte "," ∷ es)) ++ c ∷ rest ≡ text → IsReason text (range_refusal (last_image x) b)
+      → (before outer l x ++ byte "{" ∷ (ds ++ byte "," ∷ es)) ++ c ∷ rest ≡ text → IfSome (range_refusal (last_image x) b) (IsReason text)
   range_told ds es false refused is e = tt
   range_told ds es true refused is e =
       term_told outer l x f g h (from_to ds es) rest text refused
@@ -241,7 +241,7 @@ module _ (outer : Outer trees) (l : Level trees) (x : Last trees) (f : AreLevels
   high_told : (ds : List ℕ) (o : Option (List ℕ)) (k : CountToken) → count_token c ≡ k → char_of_count k c ≡ c → IsNumber ds → MayBeNumber o
       → on_high (standing outer l x) ds o c k ≡ None
       → (before outer l x ++ byte "{" ∷ (ds ++ byte "," ∷ value_or [] o)) ++ c ∷ rest ≡ text
-      → IsReason text (count_refusal (last_image x) (high (number ds) (option_map number o)) k)
+      → IfSome (count_refusal (last_image x) (high (number ds) (option_map number o)) k) (IsReason text)
   high_told ds o digit token is v w refused e =
       let es = value_or [] o in (
         es ++ c ∷ [],
@@ -266,7 +266,7 @@ module _ (outer : Outer trees) (l : Level trees) (x : Last trees) (f : AreLevels
 
 -- what is told of a character behind a part of a property is so
 part_told : (a : List ℕ) (k : PropertyPart) (c : ℕ) (rest text : List ℕ) → IsPart k → (a ++ byte "\\" ∷ part_spelling k) ++ c ∷ rest ≡ text
-    → IsReason text (part_refusal k c)
+    → IfSome (part_refusal k c) (IsReason text)
 part_told a (brace_awaited n) c rest text w e = tt
 part_told a (in_braces n p) c rest text w e =
     told_so text Property _ (λ told.
@@ -283,7 +283,7 @@ counting_told : (outer : Outer trees) (l : Level trees) (x : Last trees) → Are
     → IsLast (length outer.groups) x
     → (n : Count trees) → IsCount n → (c : ℕ) (rest text : List ℕ) → on_count (standing outer l x) n c ≡ None
     → spelled (with_mode (standing outer l x) (counting n)) ++ c ∷ rest ≡ text
-    → IsReason text (refusal_at (image (with_mode (standing outer l x) (counting n))) c)
+    → IfSome (refusal_at (image (with_mode (standing outer l x) (counting n))) c) (IsReason text)
 counting_told outer l x f g h (low o) w c rest text refused e =
     low_told outer l x f g h c rest text o (count_token c) refl (char_of_count_token c) w refused e
 counting_told outer l x f g h (high ds o) w c rest text refused e =
@@ -292,7 +292,7 @@ counting_told outer l x f g h (high ds o) w c rest text refused e =
 -- what is told of a character that the reader refuses is so, in each of its modes
 stops : (outer : Outer trees) (l : Level trees) (x : Last trees) → AreLevels outer.groups → IsLevel (length outer.groups) l → IsLast (length outer.groups) x
     → (m : Mode trees) → IsMode m → (c : ℕ) (rest text : List ℕ) → next_in (standing outer l x) m c ≡ None
-    → spelled (with_mode (standing outer l x) m) ++ c ∷ rest ≡ text → IsReason text (refusal_at (image (with_mode (standing outer l x) m)) c)
+    → spelled (with_mode (standing outer l x) m) ++ c ∷ rest ≡ text → IfSome (refusal_at (image (with_mode (standing outer l x) m)) c) (IsReason text)
 stops outer l x f g h between w c rest text refused e = tt
 stops outer l x f g h escaping w c rest text refused e =
     escape_told text c (length outer.groups, term_behind outer l x f g h c rest text (byte "\\" ∷ []) e)
@@ -352,9 +352,9 @@ module _ (text : List ℕ) (k next c : ℕ) (within : k < length text) (is : c �
   here = ap (λ z. spelled s ++ z) (sym (at_place text k next c within is follows)) ∙ stands.3
 
   -- where the code's reader refuses the character, what is told of it is so
-  pub stops_so : None ≡ reading.next p c → IsReason text (refusal_at p c)
+  pub stops_so : None ≡ reading.next p c → IfSome (refusal_at p c) (IsReason text)
   stops_so refused =
-      subst (λ r. IsReason text (refusal_at r c)) stands.1
+      subst (λ r. IfSome (refusal_at r c) (IsReason text)) stands.1
       (stops s.outer s.level s.last stands.2.0 stands.2.1 stands.2.2 s.mode stands.2.3 c (drop next text) text
       (none_mapped (reading.next s c) (refused ∙ sym stepped)) here)
 

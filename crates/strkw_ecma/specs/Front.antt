@@ -14,14 +14,10 @@ use Rattle.strkw_ecma.specs.declared.front.Lead.TheVariants.{Nothing, Anchored, 
 -- it reads no character
 abbrev pub reads_nothing : Pattern → Bool
 reads_nothing empty = true
-reads_nothing (class m n rs) = false
 reads_nothing (look l) = true
-reads_nothing (cat p q) = false
-reads_nothing (alt p q) = false
-reads_nothing (star p) = false
-reads_nothing (plus p) = false
 reads_nothing (lookbehind n p) = true
 reads_nothing (lookahead n p) = true
+reads_nothing p = false
 
 abbrev pub look_lead : Look → Lead
 look_lead start = Anchored
@@ -32,14 +28,8 @@ look_lead no_boundary = Past
 -- of a first term
 abbrev pub first_lead : Pattern → Lead
 first_lead empty = Nothing
-first_lead (class m n rs) = Past
 first_lead (look l) = look_lead l
-first_lead (cat p q) = Past
-first_lead (alt p q) = Past
-first_lead (star p) = Past
-first_lead (plus p) = Past
-first_lead (lookbehind n p) = Past
-first_lead (lookahead n p) = Past
+first_lead p = Past
 
 -- of one term more
 abbrev pub lead_behind : Lead → Pattern → Lead
@@ -50,15 +40,8 @@ lead_behind Past q = Past
 -- what a pattern is as the front of another: nothing; `^`, with terms behind it that read nothing;
 -- or more
 abbrev pub lead : Pattern → Lead
-lead empty = first_lead empty
-lead (class m n rs) = first_lead (class m n rs)
-lead (look l) = first_lead (look l)
 lead (cat p q) = lead_behind (lead p) q
-lead (alt p q) = first_lead (alt p q)
-lead (star p) = first_lead (star p)
-lead (plus p) = first_lead (plus p)
-lead (lookbehind n p) = first_lead (lookbehind n p)
-lead (lookahead n p) = first_lead (lookahead n p)
+lead p = first_lead p
 
 -- what is to be found, or where the first holds, is not
 pub record Part : Type 0 where
@@ -67,15 +50,8 @@ pub record Part : Type 0 where
 
 -- a lookahead for what the next character does not tell
 abbrev pub is_far : Pattern → Bool
-is_far empty = false
-is_far (class m n rs) = false
-is_far (look l) = false
-is_far (cat p q) = false
-is_far (alt p q) = false
-is_far (star p) = false
-is_far (plus p) = false
-is_far (lookbehind n p) = false
 is_far (lookahead n p) = not (is_glance p)
+is_far p = false
 
 -- a term is a part of its own
 abbrev pub is_apart_behind : Lead → Pattern → Bool
@@ -85,39 +61,18 @@ is_apart_behind Past q = false
 
 -- what a lookahead looks for, from the beginning of a text on
 abbrev pub part_of : Pattern → List Part
-part_of empty = []
-part_of (class m n rs) = []
-part_of (look l) = []
-part_of (cat p q) = []
-part_of (alt p q) = []
-part_of (star p) = []
-part_of (plus p) = []
-part_of (lookbehind n p) = []
 part_of (lookahead n p) = record { negated = n; pattern = cat (look start) p } ∷ []
+part_of p = []
 
 -- the parts that lookaheads at the front are
 abbrev pub fronts : Pattern → List Part
-fronts empty = []
-fronts (class m n rs) = []
-fronts (look l) = []
 fronts (cat p q) = fronts p ++ (if is_apart_behind (lead p) q then part_of q else [])
-fronts (alt p q) = []
-fronts (star p) = []
-fronts (plus p) = []
-fronts (lookbehind n p) = []
-fronts (lookahead n p) = []
+fronts p = []
 
 -- the pattern without them
 abbrev pub rest : Pattern → Pattern
-rest empty = empty
-rest (class m n rs) = class m n rs
-rest (look l) = look l
 rest (cat p q) = if is_apart_behind (lead p) q then rest p else cat (rest p) q
-rest (alt p q) = alt p q
-rest (star p) = star p
-rest (plus p) = plus p
-rest (lookbehind n p) = lookbehind n p
-rest (lookahead n p) = lookahead n p
+rest p = p
 
 abbrev pub parts : Pattern → List Part
 parts p = record { negated = false; pattern = rest p } ∷ fronts p

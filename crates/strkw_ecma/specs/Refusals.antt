@@ -13,6 +13,7 @@ use Rattle.strkw_ecma.specs.Syntax.{Disjunction, spelling, Enclosing, enclosing_
 use Rattle.strkw_ecma.specs.Syntax.{atom_spelling, Quantifier, quantifier_spelling, max_nesting}
 use Rattle.strkw_ecma.specs.Syntax.{max_length}
 use Rattle.strkw_ecma.specs.WellFormed.{IsWellFormed, IsEnclosing, IsAtom}
+use Rattle.strkw_ecma.specs.Regex.{IsRegex}
 use Rattle.strkw_ecma.specs.declared.refusals.PatternRefusal.{PatternRefusal}
 use Rattle.strkw_ecma.specs.declared.refusals.PatternRefusal.TheVariants.{BackReference}
 use Rattle.strkw_ecma.specs.declared.refusals.PatternRefusal.TheVariants.{IdentityEscape}
@@ -20,7 +21,7 @@ use Rattle.strkw_ecma.specs.declared.refusals.PatternRefusal.TheVariants.{Proper
 use Rattle.strkw_ecma.specs.declared.refusals.PatternRefusal.TheVariants.{TooLong, TooDeep}
 use Rattle.strkw_ecma.specs.declared.refusals.PatternRefusal.TheVariants.{CountTooGreat}
 use Rattle.strkw_ecma.specs.declared.refusals.PatternRefusal.TheVariants.{TermTooLarge, TooLarge}
-use Rattle.strkw_ecma.specs.declared.refusals.PatternRefusal.TheVariants.{NotTaken}
+use Rattle.strkw_ecma.specs.declared.refusals.PatternRefusal.TheVariants.{NotAPattern, NotTaken}
 
 -- what a pattern may begin with, up to where a term may stand: n groups and lookarounds are open,
 -- one in another, with alternatives before each and behind the last
@@ -98,5 +99,6 @@ IsReason text TermTooLarge =
 IsReason text TooLarge =
     (d : Disjunction) × IsWellFormed 0 d × (spelling d ≡ text)
     × (max_steps < steps_of_parts (parts (pattern d)))
--- nothing more than that it is not taken
-IsReason text NotTaken = Unit {0}
+IsReason text NotAPattern = IsRegex text → ⊥
+-- a pattern, and the engine does not take a part of it
+IsReason text NotTaken = IsRegex text

@@ -32,17 +32,8 @@ class_steps rs = sets_cost rs / 32 + 1
 
 abbrev pub instruction_steps : Instruction → ℕ
 instruction_steps (read again optional n rs) = class_steps rs
-instruction_steps (assert l) = 1
 instruction_steps (peek n rs) = class_steps rs
-instruction_steps fork = 1
-instruction_steps other = 1
-instruction_steps join = 1
-instruction_steps star_begin = 1
-instruction_steps star_end = 1
-instruction_steps plus_begin = 1
-instruction_steps plus_end = 1
-instruction_steps (look_begin n) = 1
-instruction_steps (look_end n) = 1
+instruction_steps i = 1
 
 abbrev pub steps_of : List Instruction → ℕ
 steps_of [] = 0

@@ -184,25 +184,15 @@ abbrev mutual
   with_alternative_names ns (more a t) = with_term_names (with_alternative_names ns a) t
 
   pub with_term_names : List (List ℕ) → Term → List (List ℕ)
-  with_term_names ns at_start = ns
-  with_term_names ns at_end = ns
   with_term_names ns (once a) = with_atom_names ns a
-  with_term_names ns at_boundary = ns
-  with_term_names ns at_no_boundary = ns
   with_term_names ns (looks_behind n d) = with_names ns d
   with_term_names ns (looks_ahead n d) = with_names ns d
   with_term_names ns (quantified a q g) = with_atom_names ns a
+  with_term_names ns t = ns
 
   pub with_atom_names : List (List ℕ) → Atom → List (List ℕ)
-  with_atom_names ns (plain c) = ns
-  with_atom_names ns (escaped c) = ns
-  with_atom_names ns (control_escape c) = ns
-  with_atom_names ns (set_escape c) = ns
-  with_atom_names ns (coded k) = ns
-  with_atom_names ns (property_escape n e) = ns
-  with_atom_names ns dot = ns
-  with_atom_names ns (bracketed n r e) = ns
   with_atom_names ns (group g d) = with_names (with_name ns g) d
+  with_atom_names ns a = ns
 
 -- the names of the groups of a pattern
 abbrev pub names : Disjunction → List (List ℕ)

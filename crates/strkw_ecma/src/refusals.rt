@@ -9,12 +9,13 @@ ghost use Rattle.strkw_ecma.specs.Refusals.{IsTooLong, IsReason};
 use crate::along::char_count;
 use crate::counts::MAX_COUNT;
 use crate::reader::{MAX_LENGTH, MAX_NESTING, read_passes, refusal_of};
+use crate::regex::is_valid_regex;
 use crate::size::{MAX_STEPS, MAX_TERM_STEPS};
 use std::alloc::{AllocError, Global};
 use std::error::Error;
 use std::fmt;
 
-/// Why a pattern is not taken. Each tells of what stands in it; `NotTaken` tells nothing more.
+/// Why a pattern is not taken. The last two are told where no other reason is seen.
 #[derive(Clone, Copy, Debug, PartialEq, Eq)]
 pub enum PatternRefusal {
     /// `\` and one of `1` to `9`, or `\k`, stands where a term may.
@@ -35,7 +36,9 @@ pub enum PatternRefusal {
     TermTooLarge,
     /// The pattern as a whole takes more than 5,200 steps.
     TooLarge,
-    /// Something else: it is no pattern of ECMA-262 in Unicode mode, or of a part of it that is not taken here.
+    /// It is no pattern of ECMA-262 in Unicode mode, as `is_valid_regex` tells.
+    NotAPattern,
+    /// It is a pattern of ECMA-262, of which a part is not taken here, as an escape of a surrogate alone.
     NotTaken,
 }
 
@@ -58,8 +61,11 @@ impl fmt::Display for PatternRefusal {
                 write!(f, "a counted term takes more than {MAX_TERM_STEPS} steps")
             }
             PatternRefusal::TooLarge => write!(f, "it takes more than {MAX_STEPS} steps"),
+            PatternRefusal::NotAPattern => f.write_str(
+                "it is no pattern of ECMA-262 in Unicode mode",
+            ),
             PatternRefusal::NotTaken => f.write_str(
-                "it is no pattern of ECMA-262 in Unicode mode, or of a part of it that is not taken here",
+                "it has a part of ECMA-262 that is not taken here",
             ),
         }
     }
@@ -75,9 +81,9 @@ fn is_short(pattern: &str) -> bool
 }
 
 /// Why `EcmaPatterns` does not take a pattern, and `None` exactly where it takes it. Where more than one reason could
-/// be told, it is the length, else what stands first in the pattern, and last the size. `IsReason`
-/// of `specs/Refusals.antt` says what each reason means over the text. The only error is out of memory. A pattern that
-/// is not taken is read twice.
+/// be told, it is the length, else what stands first in the pattern, then the size, and last whether it is a pattern.
+/// `IsReason` of `specs/Refusals.antt` says what each reason means over the text. The only error is out of memory. A
+/// pattern that is not taken is read twice, and once more where no other reason is seen.
 #[tactic(auto, using(crate::proofs::Taken::comes_some))]
 pub fn why_refused(alloc: Global, pattern: &str) -> Result<Option<PatternRefusal>, AllocError>
     ensures taken { IfOk result (λ why. is_none why ≡ takes_pattern (chars pattern.now)) }
@@ -91,5 +97,12 @@ pub fn why_refused(alloc: Global, pattern: &str) -> Result<Option<PatternRefusal
     if !is_short(pattern) {
         return Ok(Some(PatternRefusal::TooLong));
     }
-    Ok(Some(refusal_of(alloc, pattern)?))
+    if let Some(reason) = refusal_of(alloc, pattern)? {
+        return Ok(Some(reason));
+    }
+    if is_valid_regex(alloc, pattern)? {
+        Ok(Some(PatternRefusal::NotTaken))
+    } else {
+        Ok(Some(PatternRefusal::NotAPattern))
+    }
 }

@@ -86,15 +86,11 @@ TellsSets classes rs = (c d : ℕ) → answers 0 classes c ≡ answers 0 classes
 
 -- `\b` or `\B` stands in a glance
 abbrev pub sees_boundary : Pattern → Bool
-sees_boundary empty = false
-sees_boundary (class m n rs) = false
 sees_boundary (look l) = asks_word l
 sees_boundary (cat p q) = sees_boundary q
 sees_boundary (alt p q) = sees_boundary p || sees_boundary q
-sees_boundary (star p) = false
-sees_boundary (plus p) = false
-sees_boundary (lookbehind n p) = false
 sees_boundary (lookahead n p) = sees_boundary p
+sees_boundary p = false
 
 -- `\b` or `\B` stands in the pattern
 abbrev pub has_boundary : Pattern → Bool

@@ -37,12 +37,8 @@ is_sure (range_times n m) = nat_lt 0 n
 
 -- the character, if one is seen; of terms in a row, that of the last that has one
 abbrev pub needed_char : Pattern → Option ℕ
-needed_char empty = None
 needed_char (class m n rs) = if n then None else only_character rs
-needed_char (look l) = None
 needed_char (cat p q) = later (needed_char p) (needed_char q)
 needed_char (alt p q) = common (needed_char p) (needed_char q)
-needed_char (star p) = None
 needed_char (plus p) = needed_char p
-needed_char (lookbehind n p) = None
-needed_char (lookahead n p) = None
+needed_char p = None

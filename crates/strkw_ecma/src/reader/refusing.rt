@@ -1,6 +1,6 @@
 //! What is told of a pattern that the reader refuses: by the character at which it does, and where that stands.
 
-ghost use Rattle.std.specs.Prelude.{◌≡◌, ◌≤◌, false, IfOk, length};
+ghost use Rattle.std.specs.Prelude.{◌≡◌, ◌≤◌, false, IfOk, IfSome, length};
 ghost use Rattle.std.specs.Str.{chars};
 ghost use Rattle.strkw_ecma.specs.Syntax.{max_length};
 ghost use Rattle.strkw_ecma.specs.Numbers.{count_token as spec_count_token};
@@ -21,96 +21,98 @@ use crate::tokens::{CountToken, Extension, NameToken};
 use std::alloc::{AllocError, Global};
 
 // Behind a backslash.
-fn of_escape(c: char) -> PatternRefusal
+fn of_escape(c: char) -> Option<PatternRefusal>
     ensures { result ≡ escape_refusal c }
 {
     match c {
-        '1'..='9' | 'k' => PatternRefusal::BackReference,
+        '1'..='9' | 'k' => Some(PatternRefusal::BackReference),
         '!'..='#' | '%'..='\'' | ',' | '-' | ':'..='>' | '@' | '_' | '`' | '~' => {
-            PatternRefusal::IdentityEscape(c)
+            Some(PatternRefusal::IdentityEscape(c))
         }
-        _ => PatternRefusal::NotTaken,
+        _ => None,
     }
 }
 
 // Behind `(?`. What may stand there is refused where it is too deep.
-fn of_extension(c: char) -> PatternRefusal
+fn of_extension(c: char) -> Option<PatternRefusal>
     ensures { result ≡ extension_refusal (spec_extension c) }
 {
     match Extension::of(c) {
         Extension::Uncaptured | Extension::Equals | Extension::Exclamation => {
-            PatternRefusal::TooDeep
+            Some(PatternRefusal::TooDeep)
         }
-        Extension::NameOpening | Extension::Unknown => PatternRefusal::NotTaken,
+        Extension::NameOpening | Extension::Unknown => None,
     }
 }
 
 // Behind `(?<` and this much of a name. What may stand there is refused where it is too deep.
-fn of_name(name: &[char], c: char) -> PatternRefusal
+fn of_name(name: &[char], c: char) -> Option<PatternRefusal>
     ensures { result ≡ name_refusal name.now c (spec_name_token c) }
 {
     match NameToken::of(c) {
-        NameToken::End if !name.is_empty() => PatternRefusal::TooDeep,
-        NameToken::Equals | NameToken::Exclamation if name.is_empty() => PatternRefusal::TooDeep,
-        _ => PatternRefusal::NotTaken,
+        NameToken::End if !name.is_empty() => Some(PatternRefusal::TooDeep),
+        NameToken::Equals | NameToken::Exclamation if name.is_empty() => Some(
+            PatternRefusal::TooDeep,
+        ),
+        _ => None,
     }
 }
 
 impl PropertyPart {
-    fn refusal_at(&self, c: char) -> PatternRefusal
+    fn refusal_at(&self, c: char) -> Option<PatternRefusal>
         ensures { result ≡ part_refusal (part_of self.now) c }
     {
         match self {
             PropertyPart::InBraces(_, expression) if c == '}' && expression.is_unknown() => {
-                PatternRefusal::Property
+                Some(PatternRefusal::Property)
             }
-            _ => PatternRefusal::NotTaken,
+            _ => None,
         }
     }
 }
 
 impl Last {
     // Of a count behind it.
-    fn refusal(&self) -> PatternRefusal
+    fn refusal(&self) -> Option<PatternRefusal>
         ensures { result ≡ term_refusal (last_of self.now) }
     {
         match self {
-            Last::Atom(_) => PatternRefusal::TermTooLarge,
-            _ => PatternRefusal::NotTaken,
+            Last::Atom(_) => Some(PatternRefusal::TermTooLarge),
+            _ => None,
         }
     }
 }
 
 impl Reader {
     // Of one group or lookaround more.
-    fn depth_refusal(&self) -> PatternRefusal
+    fn depth_refusal(&self) -> Option<PatternRefusal>
         ensures { result ≡ depth_refusal (parts_of self.now) }
     {
         if self.outer.groups.len() >= MAX_NESTING {
-            PatternRefusal::TooDeep
+            Some(PatternRefusal::TooDeep)
         } else {
-            PatternRefusal::NotTaken
+            None
         }
     }
 
-    fn count_refusal(&self, count: Count, c: char) -> PatternRefusal
+    fn count_refusal(&self, count: Count, c: char) -> Option<PatternRefusal>
         ensures { result
             ≡ count_refusal (last_of self.now.last) (count_of count) (spec_count_token c) }
     {
         match (CountToken::of(c), count) {
-            (CountToken::Digit, _) => PatternRefusal::CountTooGreat,
+            (CountToken::Digit, _) => Some(PatternRefusal::CountTooGreat),
             (CountToken::Closing, Count::Low(Some(_)) | Count::High(_, None)) => self
                 .last
                 .refusal(),
             (CountToken::Closing, Count::High(first, Some(last))) if first <= last => {
                 self.last.refusal()
             }
-            _ => PatternRefusal::NotTaken,
+            _ => None,
         }
     }
 
     // Of the next character, if it is refused.
-    fn refusal_at(&self, c: char) -> PatternRefusal
+    fn refusal_at(&self, c: char) -> Option<PatternRefusal>
         ensures { result ≡ refusal_at (parts_of self.now) c }
     {
         match &self.mode {
@@ -120,16 +122,20 @@ impl Reader {
             Mode::Counting(count) => self.count_refusal(*count, c),
             Mode::Property(part) | Mode::ClassProperty(_, part) => part.refusal_at(c),
             Mode::Naming(name) => of_name(name, c),
-            _ => PatternRefusal::NotTaken,
+            _ => None,
         }
     }
 
-    // Why a pattern that this reader, a new one, reads is not taken.
-    fn refusal_of(&mut self, alloc: Global, source: &str) -> Result<PatternRefusal, AllocError>
+    // Why a pattern that this reader, a new one, reads is not taken; `None` where no reason is seen.
+    fn refusal_of(
+        &mut self,
+        alloc: Global,
+        source: &str,
+    ) -> Result<Option<PatternRefusal>, AllocError>
         requires new { parts_of self.old ≡ initial patterns }
         requires short { length (chars source.now) ≤ max_length }
         requires refused { takes_pattern (chars source.now) ≡ false }
-        ensures { IfOk result (IsReason (chars source.now)) }
+        ensures { IfOk result (λ why. IfSome why (IsReason (chars source.now))) }
     {
         for c in source.chars() {
             let refusal = self.refusal_at(c);
@@ -138,17 +144,17 @@ impl Reader {
             }
         }
         match self.end(alloc)? {
-            Some(_) if is_apart(source) => Ok(PatternRefusal::TooLarge),
-            _ => Ok(PatternRefusal::NotTaken),
+            Some(_) if is_apart(source) => Ok(Some(PatternRefusal::TooLarge)),
+            _ => Ok(None),
         }
     }
 }
 
-// Why a pattern of no more characters than may be is not taken.
-pub(crate) fn refusal_of(alloc: Global, source: &str) -> Result<PatternRefusal, AllocError>
+// Why a pattern of no more characters than may be is not taken; `None` where no reason is seen.
+pub(crate) fn refusal_of(alloc: Global, source: &str) -> Result<Option<PatternRefusal>, AllocError>
     requires short { length (chars source.now) ≤ max_length }
     requires refused { takes_pattern (chars source.now) ≡ false }
-    ensures { IfOk result (IsReason (chars source.now)) }
+    ensures { IfOk result (λ why. IfSome why (IsReason (chars source.now))) }
 {
     let mut reader = Reader::new(alloc);
     reader.refusal_of(alloc, source)

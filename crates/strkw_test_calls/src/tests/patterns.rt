@@ -216,6 +216,10 @@ const REFUSALS: &[Refused] = &[
     },
     Refused {
         pattern: "(a+|b?",
+        why: Some(PatternRefusal::NotAPattern),
+    },
+    Refused {
+        pattern: "(\\uD83D|b?)",
         why: Some(PatternRefusal::NotTaken),
     },
 ];

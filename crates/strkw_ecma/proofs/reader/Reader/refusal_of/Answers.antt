@@ -1,4 +1,5 @@
 use Rattle.std.proofs.Common.{◌≡◌, length, ◌∙◌, sym, ap, Some, option_map, subst, arith}
+use Rattle.std.specs.Prelude.{IfSome}
 use Rattle.std.specs.Str.{chars}
 use Rattle.std.proofs.lemmas.Iterator.{YieldsList-from_chars}
 use Rattle.std.proofs.lemmas.List.{length_push}
@@ -16,7 +17,7 @@ returns-then-not-branch c =
     let turn = YieldsList-turn (YieldsList-from_chars c.args.source.now c.utf8.source cc) c.loop-c.yielded _ c.loop-c.yielded_by _ _
     c.in-Some.c c.in-Some.is c.next.ensures.steps in
     let text = chars c.args.source.now in
-    subst (IsReason text) (sym c.refusal_at-refusal.ensures)
+    subst (λ why. IfSome why (IsReason text)) (sym c.refusal_at-refusal.ensures)
     (stops_so text (length c.loop-c.yielded) _ c.in-Some.c turn.0 turn.1 (length_push c.loop-c.yielded c.in-Some.c ∙ omega arith)
     (parts_of c.loop-c.self) c.loop-c.invariant.stands
     (ap (λ taken. when taken (Some (parts_of c.next-in-loop-c.new.self))) (sym c.if-not-branch.true) ∙ c.in_ok-next.ensures))
