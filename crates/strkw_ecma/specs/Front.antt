@@ -2,8 +2,8 @@
 -- one looks for, it is looked for by itself: it is a part of the pattern, beside the rest.
 use Rattle.std.specs.Prelude.{ℕ, ◌+◌, Bool, true, false, not, List, [], ◌∷◌, ◌++◌}
 use Rattle.std.specs.Prelude.{if◌then◌else◌, ⊤}
-use Rattle.strkw_ecma.specs.Tree.{Look, start, end, boundary, no_boundary, Pattern, empty, class}
-use Rattle.strkw_ecma.specs.Tree.{look, cat, alt, star, plus, lookbehind, lookahead}
+use Rattle.strkw_ecma.specs.Tree.{Look, start, end, boundary, no_boundary, Pattern, empty}
+use Rattle.strkw_ecma.specs.Tree.{look, cat, lookbehind, lookahead}
 use Rattle.strkw_ecma.specs.Glances.{is_glance}
 use Rattle.strkw_ecma.specs.Meaning.{Found, Unless}
 use Rattle.strkw_ecma.specs.Mirror.{target}

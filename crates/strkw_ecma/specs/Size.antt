@@ -4,11 +4,10 @@
 use Rattle.std.specs.Prelude.{ℕ, ◌+◌, ◌/◌, false, List, [], ◌∷◌, if◌then◌else◌}
 use Rattle.strkw_ecma.specs.declared.tree.CharSet.{CharSet}
 use Rattle.strkw_ecma.specs.declared.tree.CharSet.TheVariants.{Range, Property}
-use Rattle.strkw_ecma.specs.Tree.{Pattern, empty, class, look, cat, alt, star, plus, lookbehind}
+use Rattle.strkw_ecma.specs.Tree.{Pattern, class, cat, alt, star, plus, lookbehind}
 use Rattle.strkw_ecma.specs.Tree.{lookahead}
 use Rattle.strkw_ecma.specs.Glances.{are_told}
-use Rattle.strkw_ecma.specs.Program.{Instruction, read, assert, peek, fork, other, join, star_begin}
-use Rattle.strkw_ecma.specs.Program.{star_end, plus_begin, plus_end, look_begin, look_end, program}
+use Rattle.strkw_ecma.specs.Program.{Instruction, read, peek, program}
 
 -- of a counted term, its copies each with the steps of what is repeated
 abbrev pub max_term_steps : ℕ
@@ -44,15 +43,13 @@ steps p = steps_of (program p)
 
 -- the pattern with a mark beside what each lookaround looks for
 abbrev pub spread : Pattern → Pattern
-spread empty = empty
-spread (class m n rs) = class m n rs
-spread (look l) = look l
 spread (cat p q) = cat (spread p) (spread q)
 spread (alt p q) = alt (spread p) (spread q)
 spread (star p) = star (spread p)
 spread (plus p) = plus (spread p)
 spread (lookbehind n p) = lookbehind n (cat (class false false []) (spread p))
 spread (lookahead n p) = lookbehind n (cat (class false false []) (spread p))
+spread p = p
 
 -- of what is searched in one pass, or where lookaheads look farther than the next character, in one
 -- more for each lookaround at most

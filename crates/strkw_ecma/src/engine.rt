@@ -4,6 +4,7 @@ ghost use Rattle.std.specs.Prelude.{◌≡◌, ◌≤◌, ℕ, List, true, false
 ghost use Rattle.std.specs.Str.{chars};
 ghost use Rattle.strkw_ecma.specs.Size.{max_steps};
 ghost use Rattle.strkw_ecma.specs.machine.Engine.{are_found_by, have_rows, have_tables as spec_have_tables};
+ghost use Rattle.strkw_ecma.specs.machine.Engine.{have_chains as spec_have_chains};
 ghost use Rattle.strkw_ecma.specs.machine.Outcomes.{takes_pattern, pattern_outcome};
 ghost use Rattle.strkw_ecma.specs.machine.Passes.{are_passes_clean, are_passes_faced, are_passes_found, passes_of, steps_of_passes};
 
@@ -20,7 +21,8 @@ pub struct EcmaMatcher {
 }
 
 impl EcmaMatcher {
-    ghost use Rattle.strkw_ecma.specs.machine.Engine.{has_table as spec_has_table, takes_memory as spec_takes_memory};
+    ghost use Rattle.strkw_ecma.specs.machine.Engine.{has_table as spec_has_table, has_chain as spec_has_chain};
+    ghost use Rattle.strkw_ecma.specs.machine.Engine.{takes_memory as spec_takes_memory};
 
     /// Whether matches are read off tables: one for each lookahead at the front that is looked for by itself, and one
     /// for the rest.
@@ -28,6 +30,14 @@ impl EcmaMatcher {
         ensures { result ≡ spec_has_table self.now }
     {
         have_tables(&self.parts)
+    }
+
+    /// Whether each part is a row of classes between `^` and `$`, of which one may be repeated or counted and one more
+    /// may be missing. Such a part is searched by the length of a text.
+    pub fn has_chain(&self) -> bool
+        ensures { result ≡ spec_has_chain self.now }
+    {
+        have_chains(&self.parts)
     }
 
     /// Whether a match takes memory: a bit for each place of the text and each look-around that another pass looks for.
@@ -57,6 +67,17 @@ fn have_tables(parts: &[PartFinder]) -> bool
 {
     for part in parts {
         if !part.has_table() {
+            return false;
+        }
+    }
+    true
+}
+
+fn have_chains(parts: &[PartFinder]) -> bool
+    ensures { result ≡ spec_have_chains parts.now }
+{
+    for part in parts {
+        if !part.has_chain() {
             return false;
         }
     }

@@ -174,7 +174,7 @@ pub(crate) struct PartFinder {
 }
 
 impl PartFinder {
-    ghost use Rattle.strkw_ecma.specs.machine.Engine.{has_rows, is_found_by, reads_table};
+    ghost use Rattle.strkw_ecma.specs.machine.Engine.{has_rows, is_found_by, reads_chain, reads_table};
     ghost use Rattle.strkw_ecma.specs.machine.Search.{found_in};
 
     pub(crate) fn of(alloc: Global, pass: Pass) -> Result<PartFinder, AllocError>
@@ -211,6 +211,19 @@ impl PartFinder {
     {
         match &self.search {
             Search::Plain { finder, .. } => finder.table.is_some(),
+            Search::Told { .. } => false,
+        }
+    }
+
+    /// Whether it is looked for by a row of classes.
+    pub(crate) fn has_chain(&self) -> bool
+        ensures { result ≡ reads_chain self.now.search }
+    {
+        match &self.search {
+            Search::Plain {
+                is_backward,
+                finder,
+            } => !*is_backward && finder.chains.is_some(),
             Search::Told { .. } => false,
         }
     }

@@ -122,6 +122,10 @@ fn words_of_search(alloc: Global, pattern: &str) -> Result<String, AllocError> {
             alloc,
             "texts in which the pattern is found: a search by a table, or of at most 10,400 steps for each character",
         ),
+        Ok(engine) if engine.has_chain() => String::from_str(
+            alloc,
+            "texts in which the pattern is found: a search by the length of the text",
+        ),
         Ok(engine) if engine.takes_memory() => String::from_str(
             alloc,
             "texts in which the pattern is found: a search of at most 10,400 steps for each character, which takes memory",

@@ -1,5 +1,6 @@
--- What an engine comes to on a text, whether it reads that off tables, and whether it takes memory.
-use Rattle.std.specs.Prelude.{ℕ, Bool, true, false, ◌&&◌, ◌||◌, List, [], ◌∷◌, None, is_some}
+-- What an engine comes to on a text, whether it reads that off tables or rows of classes, and whether
+-- it takes memory.
+use Rattle.std.specs.Prelude.{ℕ, Bool, true, false, not, ◌&&◌, ◌||◌, List, [], ◌∷◌, None, is_some}
 use Rattle.strkw_pattern.specs.Matcher.{outcome_of}
 use Rattle.strkw_pattern.specs.declared.engine.Outcome.{Outcome}
 use Rattle.strkw_ecma.specs.Tree.{differ}
@@ -35,6 +36,17 @@ have_tables (f ∷ fs) = reads_table f.search && have_tables fs
 
 abbrev pub has_table : EcmaMatcher → Bool
 has_table e = have_tables e.parts.items
+
+abbrev pub reads_chain : Search → Bool
+reads_chain (Plain backward f) = not backward && is_some f.chains
+reads_chain (Told asides last) = false
+
+abbrev pub have_chains : List PartFinder → Bool
+have_chains [] = true
+have_chains (f ∷ fs) = reads_chain f.search && have_chains fs
+
+abbrev pub has_chain : EcmaMatcher → Bool
+has_chain e = have_chains e.parts.items
 
 abbrev pub has_rows : Search → Bool
 has_rows (Plain backward f) = false

@@ -1,8 +1,7 @@
 -- A character that each match of a pattern reads.
 use Rattle.std.specs.Prelude.{ℕ, nat_lt, Bool, true, false, ◌&&◌, ◌==◌, List, [], ◌∷◌, Option, Some}
 use Rattle.std.specs.Prelude.{None, if◌then◌else◌}
-use Rattle.strkw_ecma.specs.Tree.{Pattern, empty, class, look, cat, alt, star, plus, lookbehind}
-use Rattle.strkw_ecma.specs.Tree.{lookahead}
+use Rattle.strkw_ecma.specs.Tree.{Pattern, class, cat, alt, plus}
 use Rattle.strkw_ecma.specs.Patterns.{Times, any_times, some_times, once_at_most, exact_times}
 use Rattle.strkw_ecma.specs.Patterns.{least_times, range_times}
 use Rattle.strkw_ecma.specs.declared.tree.CharSet.{CharSet}
