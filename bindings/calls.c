@@ -1264,6 +1264,75 @@ static void call_together(void) {
     strkw_schema_free(mail);
 }
 
+/* Schemas, and what each comes to where nothing else is wrong. */
+static const struct {
+    const char *schema;
+    uint8_t status;
+    const char *lines, *why;
+} schemas_in_order[] = {
+    {"{}", STRKW_DONE, "", NULL},
+    {"{\"format\":\"date\"}", STRKW_DONE,
+     "error /format: \"a\" is not a \"date\"\nnote /format: \"date\"\n", NULL},
+    {"", STRKW_NO_SCHEMA, NULL, NULL},
+    {"[]", STRKW_NO_SCHEMA, NULL, NULL},
+    {"{\"format\":\"date\"", STRKW_NO_SCHEMA, NULL, NULL},
+    {"{\"format\":\"\377\"}", STRKW_NO_SCHEMA, NULL, NULL},
+    {"{\"format\":\"no-format\"}", STRKW_REFUSED, NULL,
+     "/format: Unknown format: 'no-format'. Adjust configuration to ignore unrecognized formats"},
+    {"{\"maxLength\":-1}", STRKW_REFUSED, NULL,
+     "/maxLength: the limit is not a non-negative whole number of 64 bits"},
+};
+
+/* The calls on the texts of `ab` with these ends, or behind a first offset of 0, and room for so many verdicts. */
+static bool judges_in_order(uint32_t draft, uint32_t options, const char *schema, size_t first, size_t second,
+                            size_t room, uint8_t status) {
+    const size_t ends[] = {first, second}, wide[] = {0, first, second}, count = strlen(schema);
+    const uint32_t narrow[] = {0, (uint32_t)first, (uint32_t)second};
+    const uint8_t *object = text_of(schema), *texts = text_of("ab");
+    uint8_t *by_ends = room_of(room), *by_wide = room_of(room), *by_narrow = room_of(room);
+    const bool is_done = status == STRKW_DONE;
+    return strkw_check(draft, options, object, count, texts, 2, ends, 2, by_ends, room) == status
+        && strkw_check_offsets(draft, options, object, count, texts, 2, wide, 3, by_wide, room) == status
+        && strkw_check_offsets32(draft, options, object, count, texts, 2, narrow, 3, by_narrow, room) == status
+        && is_written(by_ends, room) == is_done && is_written(by_wide, room) == is_done
+        && is_written(by_narrow, room) == is_done;
+}
+
+/* Where several things are wrong, the first is told: the texts, the draft, the options, the one text, the schema. */
+static void call_in_order(void) {
+    static const uint32_t drafts[] = {7, 202012, 0, 5};
+    static const uint32_t choices[] = {0, 4, 8, UINT32_C(0x80000000)};
+    static const size_t ends[][3] = {{1, 2, 2}, {1, 3, 2}, {2, 1, 2}, {1, 2, 1}, {1, 2, 3}};
+    for (size_t d = 0; d < 4; d++)
+        for (size_t c = 0; c < 4; c++)
+            for (size_t s = 0; s < sizeof schemas_in_order / sizeof *schemas_in_order; s++) {
+                const uint32_t draft = drafts[d], options = choices[c];
+                const char *schema = schemas_in_order[s].schema, *lines = schemas_in_order[s].lines;
+                const char *why = schemas_in_order[s].why;
+                const uint8_t wrong = d > 1 ? STRKW_NO_DRAFT : c > 1 ? STRKW_NO_OPTION : STRKW_DONE;
+                const uint8_t first = wrong != STRKW_DONE ? wrong : schemas_in_order[s].status;
+                const uint8_t of_bytes = wrong != STRKW_DONE ? wrong : STRKW_NOT_UTF8;
+                const bool is_done = first == STRKW_DONE, is_told = first == STRKW_REFUSED;
+                const char *kind = is_done ? "right" : "refused";
+                for (size_t e = 0; e < 5; e++)
+                    row("check", kind, schema,
+                        judges_in_order(draft, options, schema, ends[e][0], ends[e][1], ends[e][2],
+                                        e > 0 ? STRKW_NO_ROOM : first));
+                row("schema_compile", kind, schema, is_done || makes_none(draft, options, schema, first));
+                row("errors", kind, schema,
+                    writes(draft, options, schema, "a", 99, first, is_done ? strlen(lines) : 77,
+                           is_done && *lines != 0 ? lines : NULL));
+                row("errors", "refused", schema, writes(draft, options, schema, "\377", 99, of_bytes, 77, NULL));
+                row("errors", "refused", schema, writes(draft, options, schema, "a\300\257", 0, of_bytes, 77, NULL));
+                row("refusal", kind, schema,
+                    tells(draft, options, schema, 99, first, is_told ? strlen(why) : is_done ? 0 : 77,
+                          is_told ? why : NULL));
+                row("refusal", "refused", schema,
+                    tells(draft, options, schema, is_told ? strlen(why) - 1 : 0, is_told ? STRKW_NO_ROOM : first,
+                          is_told ? strlen(why) : is_done ? 0 : 77, NULL));
+            }
+}
+
 int main(int count, char **words) {
     lists = count == 2 && strcmp(words[1], "--list") == 0;
     call_formats();
@@ -1276,6 +1345,7 @@ int main(int count, char **words) {
     call_refusal();
     call_errors();
     call_options();
+    call_in_order();
     call_signed();
     call_schemas();
 #ifdef PROVED

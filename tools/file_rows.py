@@ -32,13 +32,18 @@ NOTHING = ("null", "NULL", "Null", "nil", "None", "undefined", "NA", "N/A", "n/a
            "skip", "blank", "missing", "unknown", "\\N", "\\", "\\0", "''", "``", "{}", "[]", "()", "<null>", "(null)",
            "(none)", " ", "  ", "\t", "\t ", "\u00c2\u00a0", "\u00e3\u0080\u0080", "\u00e2\u0080\u008b",
            "\u00ef\u00bb\u00bf", "\u00e2\u0080\u0094", "=", "=\"\"", "'")
+# Files whose fields ~ parts, with commas, quotes, blank lines and a field that is not UTF-8.
+PARTED = ('a~b\n1,~"~"\n22~\n', '"a"~b\r"2~2"~"3""3"\r\n\r\n4~\u00ff\n', 'a~b\n\n,~"1"1\n"1~"\n')
+# The same with a comma, and with fields that are empty or not UTF-8 in each of two columns.
+MET = ('{names}\n"",\u00ff\n\u00ff,x\n,\n', '{names}\r\n\r\nx,xx\r"\u00ff",\n\u00ff\u00ff,\n',
+       '\n{names}\n\u00ff,x,\nx,x\n')
 # A byte order mark, one byte a character.
 MARK = "\u00ef\u00bb\u00bf"
 
 
-def records_of(text):
-    """The records of a file without an open quote (RFC 4180, section 2; docs/PROGRAMS.md): each with its line, fields,
-    and for each byte the place of its field, or none where it parts two."""
+def records_of(text, delimiter):
+    """The records of a file without an open quote (RFC 4180, section 2; docs/PROGRAMS.md), whose fields a delimiter
+    parts: each with its line, fields, and for each byte the place of its field, or none where it parts two."""
     at, line = 0, 1
     while at < len(text):
         if text[at] in "\r\n":
@@ -54,10 +59,10 @@ def records_of(text):
                     line += text[at] == "\r" or text[at] == "\n" and text[at - 1] != "\r"
                     field, counted, at = field + text[at], [*counted, len(fields)], at + 1
                 at += 1
-            while at < len(text) and text[at] not in ",\r\n":
+            while at < len(text) and text[at] not in delimiter + "\r\n":
                 field, counted, at = field + text[at], [*counted, len(fields)], at + 1
             fields.append(field)
-            if text[at: at + 1] != ",":
+            if text[at: at + 1] != delimiter:
                 break
             counted, at = [*counted, None], at + 1
         yield first, fields, counted
@@ -128,7 +133,8 @@ def checked(plan, row, line, names, fields):
 def told(plan, row, text):
     """The lines that stand below a row."""
     lines, names, count = [], None, 0
-    for line, fields, counted in records_of(text):
+    delimiter = row.get("delimiter", plan.get("delimiter", ","))
+    for line, fields, counted in records_of(text, delimiter):
         fault = passed(line, counted, plan.get("limits", {}))
         if fault:
             return [*lines, fault]
@@ -218,6 +224,29 @@ def limits():
         yield of_file({"columns": {"1": {}}, "limits": given}, text + "\n", header=False)
 
 
+def parted():
+    """Files whose fields the plan's delimiter parts, or the caller's in its place, with limits and with no header."""
+    for c, said, header, keep_going, given, text in product(
+            (";", "\t", "x", "\x7f"), ({}, {"delimiter": ","}, {"delimiter": "4"}), (True, False), (False, True),
+            ({}, {"record": 3}, {"field": 1}), PARTED):
+        text = text.replace("~", c)
+        columns = {"a": {"maxLength": 1}} if header else {"1": {"maxLength": 1}, "2": {"maxLength": 1}}
+        plan = {"columns": columns, "limits": given, **(said or {"delimiter": c})}
+        yield of_file(plan, text, keep_going=keep_going, **({"delimiter": c} if said else {}),
+                      **({} if header else {"header": False}))
+
+
+def met():
+    """Where limits, columns of one name, fields that are passed over and such that are not UTF-8 meet."""
+    for record, field, own, each, header, keep_going, text in product(
+            (None, 1, 2), (None, 1), OWN, (True, False), (True, False), (False, True), MET):
+        given = {name: limit for name, limit in (("record", record), ("field", field)) if limit is not None}
+        columns = {name: {"minLength": 1, "maxLength": 1, **own} for name in ("a" if header else "12")}
+        plan = {"columns": columns, "limits": given, **({"duplicates": "each"} if each else {})}
+        yield of_file(plan, text.format(names="a,a" if each else "a,b"), keep_going=keep_going,
+                      **({} if header else {"header": False}))
+
+
 def marked():
     """Files behind a byte order mark, which is no part of their first record, and limits of that."""
     for record, field, text in product((None, 0, 1, 2, 3), (None, 0, 1, 2), ("a", "ab", '"a"', "a,b", "\u00e9")):
@@ -287,6 +316,10 @@ def lines():
     made += [line for row in fields() for line in row]
     made.append("# limits of a record and of a field: the first byte that passes one is told of, and the field first")
     made += [line for row in limits() for line in row]
+    made.append("# what parts fields by the plan, or by the caller in its place, with limits, and without a header")
+    made += [line for row in parted() for line in row]
+    made.append("# limits, columns of one name, fields that are passed over and such that are not UTF-8 meet")
+    made += [line for row in met() for line in row]
     made.append("# a byte order mark is no part of the file: it counts in no record and in no field")
     made += [line for row in marked() for line in row]
     made.append("# each byte but a quote in fields and at their ends, with quotes and without")
