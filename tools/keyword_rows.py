@@ -2234,6 +2234,75 @@ def lines_after_lines():
         yield lined(*lines, {**lines[0], "schema": {}}, bad, *lines[::-1])
 
 
+# Lines of a run whose answers differ, the first two with characters of two to four bytes.
+APART = (
+    '{"draft":7,"schema":{"maxLength":1},"instance":"\u00e9\u20ac"}',
+    '{"draft":202012,"schema":{"format":"\U0001f600"},"instance":"x"}',
+    '{"draft":7,"fold":true,"schema":{"format":"date"},"instance":5}',
+    '{"instance":"","schema":{"minLength":1},"draft":4}')
+# Bytes of which none is UTF-8 (Unicode's table 3-7): of a character too few, too many, too low and too high.
+OTHER_BYTES = ("80", "C3", "C0 AF", "E2 82", "E0 9F BF", "ED A0 80", "F0 9F 98", "F4 90 80 80", "FF",
+               "C3 A9 A9", "E2 28 AC")
+
+
+def told_of(lines):
+    """The answers to lines; one that is given as bytes is no UTF-8, and so no request."""
+    return [it for line in lines for it in (answer_to_text(line) if isinstance(line, str) else ["bad request", "end"])]
+
+
+def parts_of(*pieces):
+    """Texts and bytes as the parts of an input."""
+    return [part for it in pieces for part in ([it] if isinstance(it, (str, list)) else [Number(str(b)) for b in it])]
+
+
+def lines_beside_no_utf8():
+    """A line that is no UTF-8 is no request, and changes no answer of another line."""
+    one, two, three, four = APART
+    front, back = '{"draft":7,"schema":{"maxLength":1},"instance":"', '"}'
+    for wrong in map(bytes.fromhex, OTHER_BYTES):
+        # Within a text, alone, before a request and behind one; with others before, behind and on both sides.
+        for before, behind in ((front, back), ("", ""), ("", three), (three, "")):
+            for lines in ((wrong, one, two, four), (one, wrong, two, three), (two, three, wrong), (wrong, wrong, two),
+                          (one, wrong, four, wrong, two)):
+                for end in ("\n", ""):
+                    parts = parts_of(*(piece for at, line in enumerate(lines) for piece in (
+                        *((line,) if isinstance(line, str) else (before, line, behind)),
+                        "\n" if at + 1 < len(lines) else end)))
+                    yield made(compact({"input": parts}), told_of(lines))
+        # Between lines that share a schema object.
+        for shared in (one, two, four):
+            parts = parts_of([shared + "\n", Number("17")], front, wrong, back + "\n", shared + "\n", three + "\n")
+            yield made(compact({"input": parts}), told_of(17 * (shared,) + (wrong, shared, three)))
+        # Where a piece of 64 KiB ends before, within and behind these bytes.
+        for spare in range(-1, len(wrong) + 2) if len(wrong) > 2 else ():
+            size = 65536 - len(f"{one}\n{front}".encode()) - spare - 1
+            parts = parts_of(["x", Number(str(size))], f"\n{one}\n" + front, wrong, back + f"\n{two}\n{three}")
+            yield made(compact({"input": parts}), told_of(("x", one, wrong, two, three)))
+
+
+def lines_at_the_ends_of_pieces():
+    """A piece of 64 KiB may end anywhere in a line, behind it and behind its line feed: the answers are the same."""
+    one, two, three, four = APART
+    for text, step in ((f"{one}\n\n{four}", 1), (f"{two}\n{three}\n", 3)):
+        told = told_of(text.removesuffix("\n").split("\n"))
+        for at in range(0, len(text.encode()) + 1, step):
+            parts = [["x", Number(str(65536 - at - 1))], "\n" + text]
+            yield made(compact({"input": parts}), ["bad request", "end", *told])
+    # The line before it goes over two pieces, and is a request all the same.
+    first = '{"draft":7,"schema":{},"instance":1}'
+    for at in (-2, -1, 0, 1, 2, 60):
+        parts = [first, [" ", Number(str(131072 - at - 1 - len(first)))], f"\n{two}\n{three}"]
+        yield made(compact({"input": parts}), ["valid", "end", *told_of((two, three))])
+
+
+def lines_of_one_sign():
+    """A line of white space, or of another sign, is a line wherever it stands, and no request, ended or not."""
+    one, two = APART[0], APART[2]
+    for sign in ("\t", "\r", "\r\r", " \r", "\t ", *" \0\x04\x0b\x0c\x1a\x1e\x7f\x85\u00a0\u2028\ufeff#;,[]{}"):
+        for lines in ((sign, one, two), (one, sign, two), (one, two, sign), (sign,), (one, sign, sign)):
+            yield from (made(compact({"input": ["\n".join(lines) + end]}), told_of(lines)) for end in ("\n", ""))
+
+
 class Lot:
     """Draws that are the same each time, whatever Python draws them."""
 
@@ -2665,6 +2734,8 @@ SECTIONS = (
     ("limits that are left out", limits_left_out), ("other notations around content", notations_around),
     ("names of other keywords", names_of_other_keywords), ("values by options", values_by_options),
     ("lines after lines", lines_after_lines),
+    ("lines beside bytes that are no UTF-8", lines_beside_no_utf8),
+    ("lines at the ends of pieces", lines_at_the_ends_of_pieces), ("lines of one sign", lines_of_one_sign),
     ("everything together, by lot", everything_together), ("entries beside values of each shape",
     entries_beside_each_shape), ("formats of the grammars", formats_of_grammars),
     ("formats in other forms", formats_in_other_forms),
