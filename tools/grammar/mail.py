@@ -134,6 +134,17 @@ def wide_character_rows():
     yield sums("idn-email", [['"\\', '"@b']], lambda point: 32 <= point <= 126, 0x1000, 0x4000)
     far = "".join(chr(plane * 0x10000 + at) for plane in range(2, 17) for at in (0, 0x1000, 0xFFFD, 0xFFFE, 0xFFFF))
     yield characters("idn-email", far, [["a", "@b"], ['"', '"@b'], ["", "a@b"]], far)
+    yield "no character past ASCII in an address in brackets, whatever its tag (RFC 6531, section 3.3, extends none)"
+    for before, behind in (("a@[b:", "]"), ("\u00e9@[b:c", "d]"), ("a@[b", ":c]"), ("a@[", "b:c]"),
+                           ("a@[IPv6:1::", "]")):
+        yield sums("idn-email", [[before, behind]],
+                   lambda point, it=(before, behind): point < 128 and is_idn_mailbox(f"{it[0]}{chr(point)}{it[1]}"),
+                   0x8000, 0x20000)
+    wide = ["\u0080", "\u00a0", "\u00e9", "\u0131", "\u0301", "\u05d0", "\u0661", "\u2028", "\u3002", "\uff11",
+            "\uff1a", "\uff3d", "\U0001f600", "\U0010ffff"]
+    literals = [before + sign + behind for before, behind in MAIL_PLACES if "[" in before for sign in wide]
+    tags = [f"a@[{tag}:{content}]" for tag in ("x", "X-1", "0", "IPv4", "IPv6x", "ipv") for content in wide]
+    yield texts("idn-email", literals + tags, never)
     yield "no limit is asked of the whole address: 64 octets and 255 octets stand together"
     fronts = ["a" * size for size in (63, 64, 65)]
     fronts += ["\u00e9" * 32, "\u4e00" * 21 + "a", "a\u00e9" * 21 + "a", "\u00e9" * 33]

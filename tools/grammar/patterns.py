@@ -23,8 +23,8 @@ from grammar.shared import extension_rows
 from grammar.sizes import (category_edge_rows, common_pattern_rows, count_end_rows, deep_quantifier_rows, depth_rows,
                            edge_of_row_rows, escape_pair_rows, far_row_rows, far_text_rows, front_row_rows,
                            front_table_rows, language_word_rows, long_literal_rows, long_sides_rows, name_edge_rows,
-                           name_sequence_rows, nested_look_rows, option_in_row_rows, row_of_classes_rows,
-                           unlike_alternative_rows)
+                           name_sequence_rows, nested_look_rows, option_in_row_rows, row_member_rows,
+                           row_of_classes_rows, unlike_alternative_rows)
 
 def ahead_rows():
     """The rows of lookaheads."""
@@ -67,4 +67,4 @@ def ecma_rows():
                    common_pattern_rows, long_literal_rows, far_text_rows, nested_look_rows, deep_quantifier_rows,
                    count_end_rows, category_edge_rows, name_edge_rows, front_table_rows, name_sequence_rows,
                    escape_pair_rows, depth_rows, row_of_classes_rows, option_in_row_rows, long_sides_rows, far_row_rows,
-                   front_row_rows, unlike_alternative_rows, edge_of_row_rows, extension_rows)
+                   front_row_rows, unlike_alternative_rows, edge_of_row_rows, extension_rows, row_member_rows)

@@ -374,6 +374,17 @@ ROWS_WITH_OPTION = ["{}[b-d]{{2,5}}", "{}[b-d]*", "{}[b-d]+e", "[b-d]{{2,5}}{}",
 OPTIONS = ["a?", "a{0,1}", "[ab]?", "[^b-d]?", "(?:a)?", "a??", "[à-ö]?", "b?", "(?:a|)", "(?:|a)"]
 
 
+# The same with counts above the rows of a table.
+MANY_WITH_OPTION = ["{}[b-dß]{{0,1500}}", "{}[b-dß]{{3,1500}}e", "[b-dß]{{1500}}{}", "[b-dß]{{1500}}{}e",
+                    "x{}y[b-dß]{{2,1500}}z", "ä{}[b-dß]{{0,2000}}é"]
+MANY_OPTIONS = ["a?", "[à-ö]?", "[ab]?", "[^x]??"]
+
+
+def in_runs(word):
+    """The runs of one character that a text is."""
+    return ["".join(run) for _, run in itertools.groupby(word)]
+
+
 def option_in_row_rows():
     """Classes in a row of which one is counted and another may be missing."""
     yield ("classes in a row of which one is counted and another may be missing, before it, behind it and apart: texts "
@@ -390,6 +401,25 @@ def option_in_row_rows():
                   for word in list(words_of_form)[::5] for place in range(len(word))]
         rows += [[pattern, word, found.match(word) is not None] for word in dict.fromkeys([*words_of_form, *spoilt])]
     yield searches(rows)
+    yield ("the same where the one that is counted may stand more than a thousand times, with texts beyond ASCII: "
+           "alone, and as what a look-ahead at the front looks for")
+    rows = []
+    for form, option in itertools.product(MANY_WITH_OPTION, MANY_OPTIONS):
+        pattern = f"^{form.replace('{}', option).replace('{{', '{').replace('}}', '}')}$"
+        found = re.compile(pattern[:-1] + "\\Z")
+        sizes = [int(size) for size in re.findall(r"\d+", form)]
+        parts = [["", "a", "à", "b", "aa"] if part == "{}" else
+                 [c * size for size in sorted({0, *sizes, sizes[-1] + 1}) for c in "cß"] if part[0] == "[" else [part]
+                 for part in re.findall(r"\{\}|\[[^]]*\]\{\{[^}]*\}\}|\w+", form)]
+        whole = ["".join(chosen) for chosen in itertools.product(*parts)]
+        spoilt = [f"{word[:place]}漢{word[place + 1:]}"
+                  for word in whole[::3] for place in (0, len(word) // 2, max(len(word) - 1, 0))]
+        for turn, word in enumerate(dict.fromkeys([*whole, *spoilt])):
+            is_found, text = found.match(word) is not None, [[run[0], len(run)] for run in in_runs(word)]
+            rows.append([[[pattern, 1]], text, is_found])
+            if turn % 3 == 0:
+                rows += [[[[f"^(?{sign}{pattern[1:]})", 1]], text, is_found == (sign == "=")] for sign in "=!"]
+    yield long_searches(rows)
 
 
 def row_of_classes_rows():
@@ -609,4 +639,36 @@ def edge_of_row_rows():
         pattern = f"{first}{inner}{last}"
         found = re.compile(pattern.replace("[^]", "(?s:.)").replace("$", "\\Z"), re.ASCII)
         rows += [[pattern, text, found.search(text) is not None] for text in words_around]
+    yield searches(rows)
+
+
+# Which characters of ASCII each class has.
+ASCII_MEMBERS = {
+    ".": lambda c: c not in "\n\r", "[^x]": lambda c: c != "x", "\\d": str.isdigit,
+    "\\D": lambda c: not c.isdigit(),
+    "\\w": lambda c: c.isalnum() or c == "_", "\\W": lambda c: not c.isalnum() and c != "_",
+    "\\s": lambda c: c in "\t\n\v\f\r ", "\\S": lambda c: c not in "\t\n\v\f\r ", "[\\D\\d]": lambda c: True,
+    "[\\0-\\x1f\\x7f]": lambda c: unicodedata.category(c) == "Cc", "[^\\0-~]": lambda c: c == "\x7f",
+    "\\p{Cc}": lambda c: unicodedata.category(c) == "Cc", "\\P{L}": lambda c: not c.isalpha(),
+    "\\p{ASCII}": lambda c: True, "[!-~]": lambda c: "!" <= c <= "~", "[a-\\x80]": lambda c: "a" <= c,
+    "\\p{P}": lambda c: unicodedata.category(c)[0] == "P", "\\p{Lu}": str.isupper}
+
+
+def row_member_rows():
+    """Each character of ASCII in the classes of a row."""
+    yield ("each character of ASCII that a class has, in one row of it between the ends of a text, and each that it "
+           "has not among others (22.2.2.9): as the class before the counted one, as that, as one that follows, and "
+           "behind one that may be missing")
+    rows = []
+    for name, is_member in ASCII_MEMBERS.items():
+        members = "".join(filter(is_member, map(chr, range(128))))
+        right = (members * 9)[:max(9, len(members))]
+        forms = (f"^{name}{{{len(right)}}}$", f"^{name}{{0,{len(right)}}}$", f"^{name}*$", f"^\\xe9?{name}+$",
+                 f"^\\xe9*{name}{{{len(right)}}}$")
+        rows += [[form, right, True] for form in forms]
+        for other in filter(lambda c: not is_member(c), map(chr, range(128))):
+            around_it = members[:4] * 4
+            text = f"{around_it[:5]}{other}{around_it[:5]}"
+            forms = (f"^{name}{{11}}$", f"^{name}*$", f"^\\xe9?{name}{{1,11}}$")
+            rows += [[form, text, False] for form in forms]
     yield searches(rows)
