@@ -13,7 +13,8 @@ use std::test::Fail;
 use strkw_cli::{BoundedRunFault, MemorySink, MemorySource, RunFault, Sink, run, run_bounded};
 use strkw_keywords::Checks;
 use strkw_object::{Note, ObjectEvaluation, StringKeywords, compile_strings};
-use strkw_report::{CompileError, Draft, Site};
+use strkw_print::push_errors;
+use strkw_report::{CompileError, Draft, Site, TextNode};
 use strkw_test_doubles::ScriptedEngine;
 
 type Keywords = StringKeywords<ScriptedEngine<'static>>;
@@ -27,6 +28,8 @@ enum Question {
     Quietly(&'static str, bool),
     // What a call answers.
     Call(Call, &'static Told),
+    // What the errors of a text are printed as.
+    Printed(&'static str, &'static str),
 }
 
 #[derive(Clone, Copy)]
@@ -61,7 +64,9 @@ fn is_told_so(
         Ok(keywords) => is_answered_so(alloc, question, keywords, checks),
         Err(refusal) => match question {
             Question::Place(place) => is_at(refusal, place),
-            Question::Quietly(..) | Question::Call(..) => is_at(refusal, None),
+            Question::Quietly(..) | Question::Call(..) | Question::Printed(..) => {
+                is_at(refusal, None)
+            }
         },
     };
     drop(made);
@@ -81,6 +86,7 @@ fn is_answered_so(
             answers_quietly(alloc, keywords, checks, (text, valid))
         }
         Question::Call(call, row) => is_call_answered(alloc, call, keywords, checks, row),
+        Question::Printed(text, lines) => prints_so(alloc, keywords, checks, (&text, lines)),
     }
 }
 
@@ -340,6 +346,56 @@ fn collect_errors_of_objects_under_refusal(rt: HostRuntime) -> Result<(), Fail> 
 #[test]
 fn evaluate_of_objects_under_refusal(rt: HostRuntime) -> Result<(), Fail> {
     asked_of_objects(rt.alloc(), Call::Evaluate)
+}
+
+// Whether the errors of a text are printed as these lines.
+fn prints_so(
+    alloc: Global,
+    keywords: &Keywords,
+    checks: &Checks,
+    (text, wanted): (&&str, &str),
+) -> Answer {
+    if !keywords.uses(checks) {
+        return Ok(false);
+    }
+    let Some(text) = TextNode::of(text) else {
+        return Ok(false);
+    };
+    let mut lines = Vec::new(alloc);
+    push_errors(alloc, keywords, &text, checks, &mut lines)?;
+    Ok(lines.as_slice() == wanted.as_bytes())
+}
+
+// Schema objects, each at `/a` of a schema, a text, and the lines of its errors, which have the places of the schema.
+const PRINTED: &[(&str, &str, &str)] = &[
+    (
+        FOUR_ERRORS,
+        "abcd",
+        "error /a/format: \"abcd\" is not a \"date\"\n\
+            error /a/minLength: \"abcd\" is shorter than 5 characters\n\
+            error /a/maxLength: \"abcd\" is longer than 3 characters\n\
+            error /a/pattern: \"abcd\" does not match \"^x\"\n",
+    ),
+    (
+        JSON_IN_BASE64,
+        "//4=",
+        "error /a/contentEncoding: \"//4=\" does not decode to UTF-8 text\n",
+    ),
+];
+
+#[test]
+fn push_errors_of_objects_under_refusal(rt: HostRuntime) -> Result<(), Fail> {
+    for &(schema, text, lines) in PRINTED {
+        let asking = Asking {
+            draft: Draft::Draft7,
+            schema,
+            question: Question::Printed(text, lines),
+        };
+        if !is_answered(rt.alloc(), &asking)? {
+            return Err(Fail::new(text));
+        }
+    }
+    Ok(())
 }
 
 // Whether a run ended as it is to: what was written is a beginning of the answers, all of them where it ended well, and

@@ -165,8 +165,9 @@ fn compile_values_under_refusal(rt: HostRuntime) -> Result<(), Fail> {
     Ok(())
 }
 
-// A schema object, what is left of it, the value that is noted, and where it is refused with ample memory.
+// A draft and a schema object, what is left of it, the value that is noted, and where it is refused with ample memory.
 struct TakenFrom {
+    draft: Draft,
     schema: &'static str,
     left: &'static str,
     value: Option<&'static str>,
@@ -175,35 +176,54 @@ struct TakenFrom {
 
 const SCHEMAS: &[TakenFrom] = &[
     TakenFrom {
+        draft: Draft::Draft202012,
         schema: r#"{"contentMediaType":"m","contentSchema":{"b":[1]}}"#,
         left: r#"{"contentMediaType":"m"}"#,
         value: Some("{\"b\":[1]}"),
         place: None,
     },
     TakenFrom {
+        draft: Draft::Draft202012,
         schema: r#"{"contentSchema":[1]}"#,
         left: "{}",
         value: None,
         place: None,
     },
     TakenFrom {
+        draft: Draft::Draft202012,
         schema: r#"{"contentMediaType":"m"}"#,
         left: r#"{"contentMediaType":"m"}"#,
         value: None,
         place: None,
     },
     TakenFrom {
+        draft: Draft::Draft202012,
         schema: r#"{"contentMediaType":"m","contentSchema":1.5}"#,
         left: r#"{"contentMediaType":"m"}"#,
         value: None,
         place: Some("/a/contentSchema"),
+    },
+    // A draft without the keyword notes nothing, and refuses nothing.
+    TakenFrom {
+        draft: Draft::Draft7,
+        schema: r#"{"contentMediaType":"m","contentSchema":1.5}"#,
+        left: r#"{"contentMediaType":"m"}"#,
+        value: None,
+        place: None,
+    },
+    TakenFrom {
+        draft: Draft::Draft4,
+        schema: r#"{"contentMediaType":"m","contentSchema":{"b":[1]}}"#,
+        left: r#"{"contentMediaType":"m"}"#,
+        value: None,
+        place: None,
     },
 ];
 
 impl Asked for TakenFrom {
     fn subject(&self) -> Given {
         Given {
-            draft: Draft::Draft202012,
+            draft: self.draft,
             schema: self.schema,
         }
     }
