@@ -1,8 +1,6 @@
 -- Each list of scripts that ScriptExtensions.txt has is found at its place.
-use Rattle.std.proofs.Common.{◌≡◌, ℕ, ◌∷◌, [], List, map, Bool, true, false, ◌&&◌, ◌==◌, nat_le, ◌<◌, length, get_or, subst, slice_get, arith, Option, Some, refl, sym, ap, ◌∙◌, if◌then◌else◌}
-use Rattle.std.proofs.lemmas.Bool.{false≢true, eqb-true}
-use Rattle.std.proofs.lemmas.List.{length-map, get_or-map}
-use Rattle.std.proofs.lemmas.Option.{slice_get_within, slice_get-get_or}
+use Rattle.std.proofs.Common.{◌≡◌, ℕ, suc, ◌+◌, ◌∷◌, [], List, map, Bool, true, false, ◌&&◌, ◌==◌, nat_le, nat_lt, ◌<◌, ◌≤◌, length, slice_index, slice_range, arith, Option, Some, None, refl, sym, ap, ◌∙◌, if◌then◌else◌}
+use Rattle.std.proofs.lemmas.Bool.{false≢true, eqb-true, leb-true, and_parts}
 use Rattle.std.proofs.Math.Bool.{or-false}
 use Rattle.std.specs.List.{list_any}
 use Rattle.ucd_table.specs.Rows.{Row, value_in}
@@ -13,7 +11,7 @@ use Rattle.ucd_script.specs.Script.{script_eq}
 use Rattle.ucd_script.specs.ScriptExtensions.{listed_scripts, or_script}
 use Rattle.ucd_script.proofs.ScriptExtensionsLemmas.{listed_scripts_stepped}
 use Rattle.strkw_ecma.proofs.Walks.{some_same}
-use Rattle.strkw_ecma.specs.machine.ScriptLists.{place_in, with_lists, lists, list_number}
+use Rattle.strkw_ecma.specs.machine.ScriptLists.{place_in, with_lists, lists, list_number, list_scripts, starts_from, list_starts, list_numbered, HasList}
 
 -- rows with what a function gives for the value of each
 abbrev rows_of : {V W : Type 0} → (V → W) → List (Row V) → List (Row W)
@@ -33,18 +31,28 @@ value_of_rows f d [] c = refl
 value_of_rows f d (row ∷ rows) c =
     turned f row.2 (value_in d rows c) (value_in (f d) (rows_of f rows) c) (nat_le row.0 c && nat_le c row.1) (value_of_rows f d rows c)
 
--- what stands at the place of a list
-abbrev at_place : List Script → Option (List Script)
-at_place list = slice_get lists (place_in lists list)
+-- whether there is a list with a number
+abbrev has_list : ℕ → Bool
+has_list n =
+    nat_lt (n + 1) (length list_starts) && nat_le (slice_index list_starts n) (slice_index list_starts (n + 1))
+    && nat_le (slice_index list_starts (n + 1)) (length list_scripts)
 
--- of each list that the table has, that list
+-- that list, where there is one
+abbrev some_numbered : ℕ → Option (List Script)
+some_numbered n = if has_list n then Some (list_numbered n) else None
+
+-- with the place of a list as the number, that list
+abbrev at_place : List Script → Option (List Script)
+at_place list = some_numbered (place_in lists list)
+
+-- so it is for each list that the table has
 each_at_place : rows_of at_place script_extension_rows ≡ rows_of Some script_extension_rows
-unfolding script_extension_rows lists with_lists place_in
+unfolding script_extension_rows lists with_lists place_in list_scripts list_starts starts_from
 each_at_place = refl
 
--- so it is for the list of a code point
-pub found_at_place : (c : ℕ) → slice_get lists (list_number c) ≡ Some (listed_scripts c)
-unfolding listed_scripts list_number lists with_lists place_in value_in script_extension_rows
+-- and for the list of a code point
+found_at_place : (c : ℕ) → some_numbered (list_number c) ≡ Some (listed_scripts c)
+unfolding listed_scripts list_number lists with_lists place_in value_in script_extension_rows list_scripts list_starts starts_from
 found_at_place c =
     value_of_rows at_place [] script_extension_rows c
     ∙ ap (λ (rows : List (Row (Option (List Script)))). value_in (Some []) rows c) each_at_place
@@ -52,20 +60,27 @@ found_at_place c =
 
 -- code points whose lists stand at the same place have the same list
 pub same_list : (c d : ℕ) → list_number d ≡ list_number c → listed_scripts d ≡ listed_scripts c
-same_list c d same = some_same _ _ (sym (found_at_place d) ∙ ap (slice_get lists) same ∙ found_at_place c)
+same_list c d same = some_same _ _ (sym (found_at_place d) ∙ ap some_numbered same ∙ found_at_place c)
 
 -- the place of a code point's list, by steps
 unfoldable pub list_number_stepped : Stepped list_number
 unfolding list_number listed_scripts_stepped
 list_number_stepped = map_stepped (place_in lists) listed_scripts listed_scripts_stepped
 
--- where a function is known to give something for the element at a place, there is one, and it gives that
-pub given_at : {A B : Type 0} (f : A → B) (xs : List A) (n : ℕ) (d : A) (x : B) → slice_get (map f xs) n ≡ Some x
-    → (n < length xs) × (f (get_or xs n d) ≡ x)
-given_at f xs n d x given =
-    let within = subst (λ (k : ℕ). n < k) (length-map xs f) (slice_get_within (map f xs) n x given) in
-    let here = slice_get_within (map f xs) n x given in
-    (within, sym (get_or-map f xs n d x within) ∙ some_same _ _ (sym (slice_get-get_or (map f xs) n x here) ∙ given))
+-- where something is chosen, the test holds
+chosen : (b : Bool) (x y : List Script) → (if b then Some x else None) ≡ Some y → (b ≡ true) × (x ≡ y)
+chosen true x y e = (refl, some_same x y e)
+chosen false x y e = cc
+
+-- the list of a code point is the one with its number
+pub found_list : (c : ℕ) → HasList (list_number c) × (list_numbered (list_number c) ≡ listed_scripts c)
+found_list c =
+    let here = chosen (has_list (list_number c)) _ (listed_scripts c) (found_at_place c) in
+    let parts = and_parts _ _ here.0 in
+    let firsts = and_parts _ _ parts.0 in (
+      record { listed = leb-true (suc (list_number c + 1)) _ firsts.0; ordered = leb-true _ _ firsts.1; within = leb-true _ _ parts.1 },
+      here.1,
+    )
 
 -- where a list is empty, the scripts are the one alone, and else they are those of the list
 pub no_list : (own s : Script) (list : List Script) → (length list == 0) ≡ true

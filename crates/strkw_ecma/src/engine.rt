@@ -156,8 +156,9 @@ impl RegexEngine for EcmaMatcher {
 /// - `\0` where no decimal digit follows; `\c` and a letter; `\x` and two digits of base 16; `\u` and four, or two of
 ///   these for a leading and a trailing surrogate; `\u{ }` with digits up to 10FFFF, of no surrogate;
 /// - `\p{ }` and `\P{ }` with a value of General_Category, alone or behind `General_Category=` or `gc=`, of Script,
-///   behind `Script=` or `sc=`, or a binary property of the standard's table, alone, but for
-///   Changes_When_NFKC_Casefolded; each named as there or in Unicode's tables of aliases, letter case and `_` included;
+///   behind `Script=` or `sc=`, of Script_Extensions, behind `Script_Extensions=` or `scx=`, or a binary property of
+///   the standard's table, alone, but for Changes_When_NFKC_Casefolded; each named as there or in Unicode's tables of
+///   aliases, letter case and `_` included;
 /// - classes with `[ ]` and `[^ ]`, of characters, ranges and those escapes, with `\-`, and `\b` for the backspace.
 ///
 /// Any other text is not taken, nor is a pattern with groups and look-arounds more than 250 deep, with more than 2,000

@@ -1,11 +1,17 @@
 //! The property Script_Extensions: the scripts that share a character (ScriptExtensions.txt of Unicode 18.0.0).
 
-ghost use Rattle.std.specs.Prelude.{◌≡◌, map};
+ghost use Rattle.std.specs.Prelude.{◌≡◌};
 ghost use Rattle.std.specs.List.{list_any};
 ghost use Rattle.ucd_table.specs.Steps.{IsRunsOf};
 ghost use Rattle.ucd_script.specs.Script.{script_eq};
 ghost use Rattle.ucd_script.specs.ScriptExtensions.{has_script_extension, listed_scripts as spec_listed_scripts};
-ghost use Rattle.strkw_ecma.specs.machine.ScriptLists.{lists as spec_lists, list_number};
+ghost use Rattle.strkw_ecma.specs.machine.ScriptLists.{
+  list_scripts as spec_list_scripts,
+  list_starts as spec_list_starts,
+  list_number,
+  list_numbered as spec_list_numbered,
+  HasList,
+};
 
 use ucd_script::Script;
 use ucd_script::Script::*;
@@ -35,14 +41,30 @@ fn is_among(script: Script, scripts: &[Script]) -> bool
 fn listed_scripts(c: char) -> &'static [Script]
     ensures { result.now ≡ spec_listed_scripts c }
 {
-    lists()[search(list_runs(), u32::from(c)) as usize]
+    list_numbered(search(list_runs(), u32::from(c)) as usize)
 }
 
-// The lists of the table, each once, behind the empty one.
-fn lists() -> &'static [&'static [Script]]
-    ensures { map (λ list. list.now) result.now ≡ spec_lists }
+// The scripts of the list with a number: from where it begins to where the next one does.
+fn list_numbered(number: usize) -> &'static [Script]
+    requires { HasList number }
+    ensures { result.now ≡ spec_list_numbered number }
 {
-    &LISTS
+    let starts = list_starts();
+    &list_scripts()[usize::from(starts[number])..usize::from(starts[number + 1])]
+}
+
+// The scripts of the lists of the table, each list once, one behind another.
+fn list_scripts() -> &'static [Script]
+    ensures { result.now ≡ spec_list_scripts }
+{
+    &SCRIPTS
+}
+
+// Of each list where its scripts begin, and where those of the last one end.
+fn list_starts() -> &'static [u16]
+    ensures { result.now ≡ spec_list_starts }
+{
+    &STARTS
 }
 
 /// Runs of code points for which the table has the same list.
@@ -53,74 +75,64 @@ pub(crate) fn list_runs() -> &'static [u32]
 }
 
 #[rattlefmt::skip]
-static LISTS: [&[Script]; 121] = [
-    &[],
-    &[Avestan, Carian, Coptic, Duployan, Elbasan, Georgian, Glagolitic, GunjalaGondi, Gothic, Greek, Han,
-        Latin, Lydian, Mahajani, OldPermic, Shavian],
-    &[Bengali, Cyrillic, Devanagari, Latin, Lisu, Thai, Toto], &[Bopomofo, Latin], &[Latin, Lisu],
-    &[Latin, Thai], &[Cherokee, Coptic, Cyrillic, Greek, Latin, OldPermic, Sunuwar, TaiLe],
-    &[Cherokee, Cyrillic, Greek, Latin, Osage, Sunuwar, TaiLe, Todhri],
-    &[Cherokee, Cyrillic, Latin, Tifinagh], &[Glagolitic, Latin, Sunuwar, Syriac, Thai],
-    &[CaucasianAlbanian, Cherokee, Coptic, Cyrillic, Gothic, Greek, Latin, Osage, Syriac, Tifinagh, Todhri],
-    &[Coptic, Elbasan, Glagolitic, Gothic, Katakana, Latin], &[Cyrillic, Greek, Latin, OldPermic, Tifinagh],
-    &[Coptic, Duployan, Hebrew, Latin, OldPermic, Syriac, TaiLe, Tifinagh, Todhri],
-    &[Armenian, Cyrillic, Duployan, Gothic, Greek, Hebrew, Latin, OldPermic, Syriac, TaiLe, Tifinagh],
-    &[Latin, Tifinagh], &[Duployan, Latin, Syriac], &[Cherokee, Cyrillic, Latin, Osage],
-    &[Cherokee, Latin, TaiLe], &[Latin, Sunuwar], &[Ethiopic, Latin], &[Cyrillic, Latin, Todhri],
-    &[Greek, Latin, OldPermic, Todhri], &[Cherokee, Duployan, Katakana, Latin, Syriac, Tifinagh],
-    &[Cherokee, Duployan, Latin, Syriac], &[Latin, Syriac], &[Latin, Sunuwar, Syriac],
-    &[Cherokee, Latin, Syriac], &[CaucasianAlbanian, Cherokee, Gothic, Latin, Sunuwar, Syriac, Thai],
-    &[Greek], &[Latin, Osage], &[CaucasianAlbanian, Latin, Todhri], &[Latin], &[Coptic, Greek],
-    &[Cyrillic, OldPermic], &[Cyrillic, Glagolitic], &[Cyrillic, Latin], &[Armenian, Georgian, Glagolitic],
-    &[Arabic, Garay, Nko, HanifiRohingya, Syriac, Thaana, Yezidi], &[Arabic, Syriac, Thaana],
-    &[Adlam, Arabic, Garay, Nko, HanifiRohingya, Syriac, Thaana, Yezidi],
-    &[Adlam, Arabic, Mandaic, Manichaean, OldUyghur, PsalterPahlavi, HanifiRohingya, Sogdian, Syriac],
-    &[Arabic, Syriac], &[Arabic, Thaana, Yezidi], &[Arabic, HanifiRohingya],
-    &[Bengali, Devanagari, Grantha, Gujarati, Gurmukhi, Kannada, Latin, Malayalam, Nandinagari, Newa, Oriya,
-        Sharada, Tamil, Telugu, Tirhuta],
-    &[Bengali, Devanagari, Grantha, Gujarati, Gurmukhi, Kannada, Latin, Malayalam, Newa, Oriya, Tamil, Telugu,
-        Tirhuta],
-    &[Bengali, Devanagari, Dogra, GunjalaGondi, MasaramGondi, Grantha, Gujarati, Gurmukhi, Kannada, Mahajani,
-        Malayalam, Nandinagari, OlOnal, Oriya, Khudawadi, Sinhala, SylotiNagri, Takri, Tamil, Telugu, Tirhuta],
-    &[Bengali, Devanagari, Dogra, GunjalaGondi, MasaramGondi, Grantha, Gujarati, GurungKhema, Gurmukhi,
-        Kannada, Limbu, Mahajani, Malayalam, Nandinagari, OlOnal, Oriya, Khudawadi, Sinhala, SylotiNagri,
-        Takri, Tamil, Telugu, Tirhuta],
-    &[Devanagari, Dogra, Kaithi, Mahajani], &[Bengali, Chakma, SylotiNagri], &[Gurmukhi, Multani],
-    &[Gujarati, Khojki], &[Kannada, Malayalam, Tamil, Telugu], &[Grantha, Tamil],
-    &[Kannada, Nandinagari, TuluTigalari], &[Chakma, Myanmar, TaiLe], &[Georgian, Glagolitic, Latin],
-    &[Runic], &[Buhid, Hanunoo, Tagbanwa, Tagalog], &[Mongolian, PhagsPa],
-    &[Bengali, Devanagari, Grantha, Kannada], &[Devanagari], &[Devanagari, Grantha, Kannada],
-    &[Bengali, Devanagari, Newa, Telugu, Tirhuta], &[Bengali, Devanagari, Telugu],
-    &[Devanagari, Newa, Sharada], &[Bengali, Devanagari, Newa, Telugu], &[Devanagari, Sharada],
-    &[Devanagari, Kannada, Malayalam, Oriya, Tamil, Telugu], &[Bengali, Devanagari],
-    &[Devanagari, Newa, Tirhuta], &[Devanagari, Nandinagari, Newa], &[Bengali, Devanagari, Sharada],
-    &[Devanagari, Newa], &[Bengali, Devanagari, Newa, Sharada],
-    &[Bengali, Devanagari, Grantha, Kannada, Malayalam, Nandinagari, Oriya, Sinhala, Telugu, Tirhuta,
-        TuluTigalari],
-    &[Devanagari, Grantha], &[Devanagari, Grantha, Kannada, TuluTigalari], &[Bengali], &[Nandinagari],
-    &[Cyrillic, Latin, Syriac], &[Syriac], &[Latin, Mongolian, PhagsPa], &[Adlam, Arabic],
-    &[Carian, Georgian, Glagolitic, OldHungarian, Lycian, OldTurkic],
-    &[Carian, Greek, OldHungarian, MeroiticHieroglyphs], &[Devanagari, Grantha, Latin], &[Coptic, Latin],
-    &[Avestan, OldTurkic], &[Avestan, Carian, Georgian, OldHungarian, Kaithi, Lydian, Samaritan], &[Duployan],
-    &[Adlam, Arabic, OldHungarian], &[Han, Tangut],
-    &[Bopomofo, Hangul, Han, Hiragana, Katakana, Mongolian, Yi],
-    &[Bopomofo, Hangul, Han, Hiragana, Katakana, Mongolian, PhagsPa, Yi],
-    &[Bopomofo, Hangul, Han, Hiragana, Katakana], &[Han],
-    &[Bopomofo, Hangul, Han, Hiragana, Katakana, Mongolian, Tibetan, Yi],
-    &[Bopomofo, Hangul, Han, Hiragana, Katakana, Lisu, Mongolian, Tibetan, Yi],
-    &[Bopomofo, Hangul, Han, Hiragana, Katakana, Yi], &[Bopomofo, Han], &[Hiragana, Katakana],
-    &[Han, Hiragana, Katakana], &[Han, Latin],
-    &[Devanagari, Dogra, Gujarati, Gurmukhi, Khojki, Kannada, Kaithi, Mahajani, Malayalam, Modi, Nandinagari,
-        Sharada, Khudawadi, Takri, Tirhuta, TuluTigalari],
-    &[Devanagari, Dogra, Gujarati, Gurmukhi, Khojki, Kannada, Kaithi, Mahajani, Modi, Nandinagari, Sharada,
-        Khudawadi, Takri, Tirhuta, TuluTigalari],
-    &[Devanagari, Dogra, Gujarati, Gurmukhi, Khojki, Kaithi, Mahajani, Modi, Khudawadi, Takri, Tirhuta],
-    &[Devanagari, Dogra, Gujarati, Gurmukhi, Khojki, Kaithi, Mahajani, Modi, Sharada, Khudawadi, Takri,
-        Tirhuta],
-    &[Bengali, Devanagari, TuluTigalari], &[Devanagari, Tamil], &[KayahLi, Latin, Myanmar],
-    &[Buginese, Javanese], &[Arabic, Nko], &[Arabic, Thaana], &[CyproMinoan, Cypriot, LinearB],
-    &[Cypriot, LinearB], &[Cypriot, LinearA, LinearB], &[Arabic, Coptic], &[Manichaean, OldUyghur],
-    &[ProtoCuneiform, Cuneiform],
+static SCRIPTS: [Script; 542] = [
+    Avestan, Carian, Coptic, Duployan, Elbasan, Georgian, Glagolitic, GunjalaGondi, Gothic, Greek, Han, Latin,
+    Lydian, Mahajani, OldPermic, Shavian, Bengali, Cyrillic, Devanagari, Latin, Lisu, Thai, Toto, Bopomofo, Latin,
+    Latin, Lisu, Latin, Thai, Cherokee, Coptic, Cyrillic, Greek, Latin, OldPermic, Sunuwar, TaiLe, Cherokee,
+    Cyrillic, Greek, Latin, Osage, Sunuwar, TaiLe, Todhri, Cherokee, Cyrillic, Latin, Tifinagh, Glagolitic, Latin,
+    Sunuwar, Syriac, Thai, CaucasianAlbanian, Cherokee, Coptic, Cyrillic, Gothic, Greek, Latin, Osage, Syriac,
+    Tifinagh, Todhri, Coptic, Elbasan, Glagolitic, Gothic, Katakana, Latin, Cyrillic, Greek, Latin, OldPermic,
+    Tifinagh, Coptic, Duployan, Hebrew, Latin, OldPermic, Syriac, TaiLe, Tifinagh, Todhri, Armenian, Cyrillic,
+    Duployan, Gothic, Greek, Hebrew, Latin, OldPermic, Syriac, TaiLe, Tifinagh, Latin, Tifinagh, Duployan, Latin,
+    Syriac, Cherokee, Cyrillic, Latin, Osage, Cherokee, Latin, TaiLe, Latin, Sunuwar, Ethiopic, Latin, Cyrillic,
+    Latin, Todhri, Greek, Latin, OldPermic, Todhri, Cherokee, Duployan, Katakana, Latin, Syriac, Tifinagh,
+    Cherokee, Duployan, Latin, Syriac, Latin, Syriac, Latin, Sunuwar, Syriac, Cherokee, Latin, Syriac,
+    CaucasianAlbanian, Cherokee, Gothic, Latin, Sunuwar, Syriac, Thai, Greek, Latin, Osage, CaucasianAlbanian,
+    Latin, Todhri, Latin, Coptic, Greek, Cyrillic, OldPermic, Cyrillic, Glagolitic, Cyrillic, Latin, Armenian,
+    Georgian, Glagolitic, Arabic, Garay, Nko, HanifiRohingya, Syriac, Thaana, Yezidi, Arabic, Syriac, Thaana,
+    Adlam, Arabic, Garay, Nko, HanifiRohingya, Syriac, Thaana, Yezidi, Adlam, Arabic, Mandaic, Manichaean,
+    OldUyghur, PsalterPahlavi, HanifiRohingya, Sogdian, Syriac, Arabic, Syriac, Arabic, Thaana, Yezidi, Arabic,
+    HanifiRohingya, Bengali, Devanagari, Grantha, Gujarati, Gurmukhi, Kannada, Latin, Malayalam, Nandinagari, Newa,
+    Oriya, Sharada, Tamil, Telugu, Tirhuta, Bengali, Devanagari, Grantha, Gujarati, Gurmukhi, Kannada, Latin,
+    Malayalam, Newa, Oriya, Tamil, Telugu, Tirhuta, Bengali, Devanagari, Dogra, GunjalaGondi, MasaramGondi,
+    Grantha, Gujarati, Gurmukhi, Kannada, Mahajani, Malayalam, Nandinagari, OlOnal, Oriya, Khudawadi, Sinhala,
+    SylotiNagri, Takri, Tamil, Telugu, Tirhuta, Bengali, Devanagari, Dogra, GunjalaGondi, MasaramGondi, Grantha,
+    Gujarati, GurungKhema, Gurmukhi, Kannada, Limbu, Mahajani, Malayalam, Nandinagari, OlOnal, Oriya, Khudawadi,
+    Sinhala, SylotiNagri, Takri, Tamil, Telugu, Tirhuta, Devanagari, Dogra, Kaithi, Mahajani, Bengali, Chakma,
+    SylotiNagri, Gurmukhi, Multani, Gujarati, Khojki, Kannada, Malayalam, Tamil, Telugu, Grantha, Tamil, Kannada,
+    Nandinagari, TuluTigalari, Chakma, Myanmar, TaiLe, Georgian, Glagolitic, Latin, Runic, Buhid, Hanunoo,
+    Tagbanwa, Tagalog, Mongolian, PhagsPa, Bengali, Devanagari, Grantha, Kannada, Devanagari, Devanagari, Grantha,
+    Kannada, Bengali, Devanagari, Newa, Telugu, Tirhuta, Bengali, Devanagari, Telugu, Devanagari, Newa, Sharada,
+    Bengali, Devanagari, Newa, Telugu, Devanagari, Sharada, Devanagari, Kannada, Malayalam, Oriya, Tamil, Telugu,
+    Bengali, Devanagari, Devanagari, Newa, Tirhuta, Devanagari, Nandinagari, Newa, Bengali, Devanagari, Sharada,
+    Devanagari, Newa, Bengali, Devanagari, Newa, Sharada, Bengali, Devanagari, Grantha, Kannada, Malayalam,
+    Nandinagari, Oriya, Sinhala, Telugu, Tirhuta, TuluTigalari, Devanagari, Grantha, Devanagari, Grantha, Kannada,
+    TuluTigalari, Bengali, Nandinagari, Cyrillic, Latin, Syriac, Syriac, Latin, Mongolian, PhagsPa, Adlam, Arabic,
+    Carian, Georgian, Glagolitic, OldHungarian, Lycian, OldTurkic, Carian, Greek, OldHungarian,
+    MeroiticHieroglyphs, Devanagari, Grantha, Latin, Coptic, Latin, Avestan, OldTurkic, Avestan, Carian, Georgian,
+    OldHungarian, Kaithi, Lydian, Samaritan, Duployan, Adlam, Arabic, OldHungarian, Han, Tangut, Bopomofo, Hangul,
+    Han, Hiragana, Katakana, Mongolian, Yi, Bopomofo, Hangul, Han, Hiragana, Katakana, Mongolian, PhagsPa, Yi,
+    Bopomofo, Hangul, Han, Hiragana, Katakana, Han, Bopomofo, Hangul, Han, Hiragana, Katakana, Mongolian, Tibetan,
+    Yi, Bopomofo, Hangul, Han, Hiragana, Katakana, Lisu, Mongolian, Tibetan, Yi, Bopomofo, Hangul, Han, Hiragana,
+    Katakana, Yi, Bopomofo, Han, Hiragana, Katakana, Han, Hiragana, Katakana, Han, Latin, Devanagari, Dogra,
+    Gujarati, Gurmukhi, Khojki, Kannada, Kaithi, Mahajani, Malayalam, Modi, Nandinagari, Sharada, Khudawadi, Takri,
+    Tirhuta, TuluTigalari, Devanagari, Dogra, Gujarati, Gurmukhi, Khojki, Kannada, Kaithi, Mahajani, Modi,
+    Nandinagari, Sharada, Khudawadi, Takri, Tirhuta, TuluTigalari, Devanagari, Dogra, Gujarati, Gurmukhi, Khojki,
+    Kaithi, Mahajani, Modi, Khudawadi, Takri, Tirhuta, Devanagari, Dogra, Gujarati, Gurmukhi, Khojki, Kaithi,
+    Mahajani, Modi, Sharada, Khudawadi, Takri, Tirhuta, Bengali, Devanagari, TuluTigalari, Devanagari, Tamil,
+    KayahLi, Latin, Myanmar, Buginese, Javanese, Arabic, Nko, Arabic, Thaana, CyproMinoan, Cypriot, LinearB,
+    Cypriot, LinearB, Cypriot, LinearA, LinearB, Arabic, Coptic, Manichaean, OldUyghur, ProtoCuneiform, Cuneiform,
+];
+
+// Of each list where it begins, and where the last one ends.
+#[rattlefmt::skip]
+static STARTS: [u16; 122] = [
+    0, 0, 16, 23, 25, 27, 29, 37, 45, 49, 54, 65, 71, 76, 85, 96, 98, 101, 105, 108, 110, 112, 115, 119, 125, 129,
+    131, 134, 137, 144, 145, 147, 150, 151, 153, 155, 157, 159, 162, 169, 172, 180, 189, 191, 194, 196, 211, 224,
+    245, 268, 272, 275, 277, 279, 283, 285, 288, 291, 294, 295, 299, 301, 305, 306, 309, 314, 317, 320, 324, 326,
+    332, 334, 337, 340, 343, 345, 349, 360, 362, 366, 367, 368, 371, 372, 375, 377, 383, 387, 390, 392, 394, 401,
+    402, 405, 407, 414, 422, 427, 428, 436, 445, 451, 453, 455, 458, 460, 476, 491, 502, 514, 517, 519, 522, 524,
+    526, 528, 531, 533, 536, 538, 540, 542,
 ];
 
 // Of each run where it ends, times 2,048, and the place of its list.
