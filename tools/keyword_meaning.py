@@ -136,6 +136,7 @@ SCRIPTED_CODECS = {
     "odd": (lambda text: True, lambda text: None),
     "bytes": (lambda text: False, lambda text: NO_TEXT),
     "plain": (lambda text: True, lambda text: text),
+    "behind one": (lambda text: True, lambda text: "1" + text),
 }
 
 

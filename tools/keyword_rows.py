@@ -463,13 +463,25 @@ def other_names_of_content():
         yield asked(draft, {"contentMediaType": name, "contentEncoding": "base64"}, ["!", "ezp9"])
 
 
+def decoded_to_another_text():
+    """The media type is asked of what a codec decodes a text to, and the text stands in its error."""
+    texts = ["", "1", "{}", "{", "[", "01", " 2", ".5", ".", "e1", "x", "xy", "\u00e9", "\u00e9x"]
+    for draft, media_type in product((6, 7, 202012), (JSON, "text/even")):
+        schema = {"contentMediaType": media_type, "contentEncoding": "c"}
+        both = ([["c", "behind one"], ["c", "plain"]], [["c", "plain"], ["c", "behind one"]])
+        for rows in ([["c", "behind one"]], *both):
+            yield asked(draft, schema, texts, codecs=rows, media_types=[["text/even", "even"]])
+            yield asked(draft, {**schema, "maxLength": 1}, texts, codecs=rows, media_types=[["text/even", "even"]])
+        yield asked(draft, {"contentEncoding": "c"}, texts, codecs=[["c", "behind one"]])
+
+
 def content_over_built_ins():
     """Rows over built-in names, first rows, and built-ins that are switched off."""
     for draft, codec in product(DRAFTS, ENCODERS):
         if draft in (4, 201909) and codec != "base64":
             continue
         texts = texts_for(codec)[:2]
-        for script in ("odd", "bytes", "plain"):
+        for script in ("odd", "bytes", "plain", "behind one"):
             rows = [["x", "plain"], [codec, script], [codec, "bytes" if script == "odd" else "odd"]]
             yield asked(draft, {"contentEncoding": codec}, texts, codecs=rows)
             yield asked(draft, {"contentMediaType": JSON, "contentEncoding": codec}, ["{}", "{:}"], codecs=rows)
@@ -2701,7 +2713,8 @@ SECTIONS = (
     ("characters not seen", characters_not_seen), ("ends that checks see", ends_that_checks_see), ("limits of 64 bits",
     limits_of_64_bits), ("good limits beside bad ones", good_beside_bad_limits), ("content by product",
     content_by_product), ("other keywords by the options of formats", keywords_by_options), ("entries of content",
-    entries_of_content), ("texts of encodings", texts_of_encodings), ("names of content one letter off",
+    entries_of_content), ("texts of encodings", texts_of_encodings),
+    ("codecs that decode to another text", decoded_to_another_text), ("names of content one letter off",
     other_names_of_content), ("content over built-ins", content_over_built_ins), ("schemas beside media types",
     schemas_beside_media_types), ("patterns", patterns), ("texts of each kind", texts_of_each_kind),
     ("content of each kind", content_of_each_kind), ("first refusals", first_refusals), ("keywords left out",

@@ -1,5 +1,5 @@
 //! What a caller hands in: a check, a codec, and a builder with its engines, each with a script for its answers.
-ghost use Rattle.std.specs.Prelude.{◌≡◌, ◌==◌, ◌%◌, ◌&&◌, IfOk, length, find, option_map, unwrap_or, if◌then◌else◌};
+ghost use Rattle.std.specs.Prelude.{◌≡◌, ◌==◌, ◌%◌, ◌++◌, ◌&&◌, IfOk, length, find, option_map, unwrap_or, if◌then◌else◌};
 ghost use Rattle.std.specs.List.{list_any};
 ghost use Rattle.std.specs.Str.{bytes_eq, chars, encode_utf8_all};
 ghost use Rattle.std.specs.String.{string_bytes};
@@ -61,11 +61,13 @@ pub fn check_named(name: &str) -> ScriptedCheck {
     }
 }
 
-/// Takes each text for an encoding or none, and decodes each to itself, or to bytes that are no text, or not at all.
+/// Takes each text for an encoding or none, and decodes each to itself behind another text, or to bytes that are no
+/// text, or not at all.
 #[derive(Clone, Copy)]
 pub struct ScriptedCodec {
     pub encodes: bool,
     pub is_plain: bool,
+    pub front: &'static str,
     pub is_bytes: bool,
     pub has_memory: bool,
 }
@@ -75,7 +77,8 @@ impl ContentCodec for ScriptedCodec {
 
     ghost is_encoding = { λ codec _. codec.encodes };
 
-    ghost decoding = { λ codec text. if codec.is_plain then decoded (encode_utf8_all text)
+    ghost decoding = { λ codec text. if codec.is_plain
+        then decoded (codec.front.now ++ encode_utf8_all text)
         else (if codec.is_bytes then no_text else no_encoding) };
 
     fn is_encoded(&self, _alloc: Global, _value: &str) -> Result<bool, AllocError> {
@@ -90,7 +93,9 @@ impl ContentCodec for ScriptedCodec {
             return Err(DecodeError::Memory);
         }
         if self.is_plain {
-            return Ok(Some(String::from_str(alloc, value)?));
+            let mut text = String::from_str(alloc, self.front)?;
+            text.push_str(value)?;
+            return Ok(Some(text));
         }
         if self.is_bytes {
             Err(DecodeError::NotUtf8)
@@ -101,11 +106,13 @@ impl ContentCodec for ScriptedCodec {
 }
 
 /// The script of a codec, by its name: `odd` takes each text and decodes none, `bytes` takes none and decodes each to
-/// what is no text, `plain` decodes each text to itself; or one that is out of memory.
+/// what is no text, `plain` decodes each text to itself, `behind one` to itself behind a `1`; or one that is out of
+/// memory.
 pub fn codec_named(name: &str) -> ScriptedCodec {
     ScriptedCodec {
         encodes: name != "bytes",
-        is_plain: name == "plain",
+        is_plain: name == "plain" || name == "behind one",
+        front: if name == "behind one" { "1" } else { "" },
         is_bytes: name == "bytes",
         has_memory: name != "out of memory",
     }
