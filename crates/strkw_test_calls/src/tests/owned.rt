@@ -9,8 +9,9 @@ use super::objects::are_notes;
 use serde_json::{Map, Value};
 use std::alloc::{AllocError, Global};
 use std::test::Fail;
-use strkw_keywords::{Checks, Keyword, Uses, take_content_schema};
+use strkw_keywords::{Checks, Context, Keyword, Options, Uses, take_content_schema};
 use strkw_object::{Note, OwnedValues, StringKeywords, compile_owned, compile_values};
+use strkw_pattern::NoPatterns;
 use strkw_report::{CompileError, Draft};
 use strkw_test_doubles::ScriptedEngine;
 
@@ -290,4 +291,22 @@ fn take_content_schema_under_refusal(rt: HostRuntime) -> Result<(), Fail> {
         }
     }
     Ok(())
+}
+
+// Where the keyword is left out nothing is noted and nothing is refused. Its value is taken out of the object too.
+#[test]
+fn content_schema_left_out_is_taken_out(rt: HostRuntime) -> Result<(), Fail> {
+    let alloc = rt.alloc();
+    let mut options = Options::default();
+    options.overridden = [true; 7];
+    let mut ctx = Context::new(alloc, Draft::Draft202012, &NoPatterns);
+    ctx.options = options;
+    let mut given = object(alloc, r#"{"contentMediaType":"m","contentSchema":1.5}"#)?;
+    let taken = take_content_schema(alloc, &ctx, &mut given);
+    let adds_nothing = taken.is_none();
+    drop((taken, ctx));
+    if adds_nothing && is_left(alloc, given, r#"{"contentMediaType":"m"}"#)? {
+        return Ok(());
+    }
+    Err(Fail::new("contentSchema"))
 }
