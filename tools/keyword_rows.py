@@ -657,6 +657,25 @@ def keywords_left_out():
             yield asked(draft, WHOLE, keyword=keyword, left_out=[keyword])
 
 
+def sets_of_keywords():
+    """Each set of keywords, of which the others are not there, or are left out: each adds what it adds alone."""
+    for draft, some in product(DRAFTS, (some for count in range(8) for some in combinations(KEYWORDS, count))):
+        schema = {keyword: WHOLE[keyword] for keyword in reversed(some)}
+        yield asked(draft, schema, ["ab"], validate_formats=True)
+        yield asked(draft, WHOLE, ["ab"], left_out=list(some))
+        if draft in (7, 202012):
+            yield requested(draft, schema, "7B", fold=True)
+
+
+def sets_of_codecs():
+    """Each set of encodings that are switched off: those are unknown, and the others are known."""
+    for off, codec in product((some for count in range(6) for some in combinations(ENCODERS, count)), ENCODERS):
+        beside = {"contentMediaType": JSON, "contentEncoding": codec}
+        yield asked(7, {"contentEncoding": codec}, ["!"], without_codecs=list(off))
+        yield asked(6, beside, ["!"], without_codecs=list(off))
+        yield asked(7, beside, ["!"], without_codecs=list(off), json_media_type=False)
+
+
 # Texts that fail at each of these: base16 of what is no JSON text, base16 of what is no UTF-8, and no encoding.
 FAILING = ("7B", "ab", "!")
 CONTENT_THAT_FAILS = ({"contentMediaType": JSON}, {"contentEncoding": "base32"},
@@ -721,6 +740,21 @@ def places():
         yield asked(draft, {"format": 5}, **more)
         yield asked(draft, {"contentMediaType": JSON, "contentEncoding": 5}, **more)
         yield asked(draft, {"minLength": 5}, ["ab"], location=location, way=["$ref"], keyword="minLength")
+
+
+def places_there_or_not():
+    """Each place is its own, whichever of the others are there: of each kind of error and of refusal, and of notes."""
+    refused = ({"format": 5}, {"maxLength": -1}, {"pattern": "("}, {"contentMediaType": JSON, "contentEncoding": 5},
+               {"contentMediaType": JSON, "contentSchema": parsed("[1.5]")})
+    empty = {"location": [""], "way": [""], "at": [""], "absolute": ""}
+    sets = [some for count in range(5) for some in combinations(empty, count)]
+    for given, names in product((placed(1), empty), sets):
+        more = {name: given[name] for name in names}
+        for schema in (*sum(THAT_FAIL, ()), {"pattern": "^z$"}):
+            yield asked(7, schema, FAILING[:2], **LISTS_THAT_FAIL, **more)
+            yield from (asked(7, schema, ["ab"], keyword=it, **LISTS_THAT_FAIL, **more) for it in schema)
+        yield from (asked(draft, WHOLE, ["ab"], **LISTS_THAT_FAIL, **more) for draft in (4, 7, 202012))
+        yield from (asked(draft, schema, **more) for draft in (7, 202012) for schema in refused)
 
 
 def pointers():
@@ -823,6 +857,26 @@ def lists_in_use():
             if keyword != "format":
                 yield asked(draft, {"contentMediaType": JSON, "contentEncoding": "base64"}, lent=lent,
                             **{"with": chosen}, **rows)
+
+
+def lists_in_use_by_options():
+    """What is left out, not checked, off or not taken keeps no row; what keeps one asks for it under any options."""
+    scripts = {"formats": ("none", "all"), "media_types": ("none", "all"), "codecs": ("odd", "plain")}
+    lent = [[0, 2, 0, 2, 0, 2], [1, 2, 0, 2, 0, 2], [0, 2, 1, 2, 0, 2], [0, 2, 0, 2, 1, 2], [1, 2, 1, 2, 1, 2],
+            [0, 1, 0, 2, 0, 2], [0, 2, 0, 1, 0, 2], [0, 2, 0, 2, 0, 1], [0, 0, 0, 0, 0, 0]]
+    options = ({}, {"validate_formats": False}, {"validate_formats": True}, {"formats_by_dialect": True},
+               {"ignore_unknown_formats": False}, {"json_media_type": False}, {"without_codecs": list(ENCODERS)},
+               *({"left_out": [it]} for it in KEYWORDS), {"left_out": ["contentMediaType", "contentEncoding"]})
+    for names in (("f", "m", "c"), ("date", JSON, "base64")):
+        rows = {kind: [[name, it] for it in scripts[kind]] for kind, name in zip(scripts, names)}
+        schema = dict(zip(("format", "contentMediaType", "contentEncoding"), names))
+        schemas = (schema, {**schema, "contentSchema": True, "minLength": 1, "maxLength": 0, "pattern": "^x"},
+                   *({keyword: it} for keyword, it in schema.items()))
+        for draft, schema, more in product((4, 6, 7, 201909, 202012), schemas, options):
+            yield asked(draft, schema, ["x"], lent=lent, **more, **rows)
+            if draft == 7 and len(schema) > 1:
+                none = {"with": [0, 0, 0, 0, 0, 0]}
+                yield asked(draft, schema, lent=lent, **none, **more, **rows)
 
 
 def parts_of_lists():
@@ -937,6 +991,18 @@ def lines_of_each_shape():
         for other in near(name):
             yield lined({**ONE_REQUEST, other: every[name]})
             yield lined({other if it == name else it: every[it] for it in every})
+
+
+def members_in_each_order():
+    """The members of a request stand in any order (RFC 8259, section 4), also where lines share a schema object."""
+    every = {"draft": 202012, "schema": {"format": "date", "maxLength": 1}, "instance": "x",
+             "validate_formats": True, "ignore_unknown_formats": False, "fold": True}
+    unknown = {**every, "schema": {"format": "nonsense"}}
+    for line, most, counts in ((every, 24, range(4)), (unknown, 20, range(2))):
+        for more in (more for count in counts for more in combinations(list(every)[3:], count)):
+            orders = list(permutations((*list(every)[:3], *more)))
+            for at in range(0, len(orders), most):
+                yield lined(*({name: line[name] for name in names} for names in orders[at:at + most]))
 
 
 # For each member two values that change the answer, and one that is not of its kind, if there is such a one.
@@ -2718,10 +2784,13 @@ SECTIONS = (
     other_names_of_content), ("content over built-ins", content_over_built_ins), ("schemas beside media types",
     schemas_beside_media_types), ("patterns", patterns), ("texts of each kind", texts_of_each_kind),
     ("content of each kind", content_of_each_kind), ("first refusals", first_refusals), ("keywords left out",
-    keywords_left_out), ("errors together", errors_together), ("places", places), ("places of each kind",
-    places_of_each_kind), ("many of one kind", many), ("texts in errors", texts_in_errors), ("lists in use",
-    lists_in_use), ("parts of lists", parts_of_lists), ("numbers that are no drafts", no_drafts), ("requests",
-    requests), ("lines of each shape", lines_of_each_shape), ("members and keywords that stand twice",
+    keywords_left_out), ("sets of keywords", sets_of_keywords), ("sets of encodings that are switched off",
+    sets_of_codecs), ("errors together", errors_together), ("places", places), ("places of each kind",
+    places_of_each_kind), ("places there or not", places_there_or_not), ("many of one kind", many), ("texts in errors",
+    texts_in_errors), ("lists in use", lists_in_use), ("lists in use by options", lists_in_use_by_options),
+    ("parts of lists", parts_of_lists), ("numbers that are no drafts", no_drafts), ("requests",
+    requests), ("lines of each shape", lines_of_each_shape), ("members in each order", members_in_each_order),
+    ("members and keywords that stand twice",
     members_that_stand_twice), ("names with escapes", names_with_escapes), ("values in requests", values_in_requests),
     ("other members", other_members), ("members that nest", deep_members), ("members of schema objects that nest",
     deep_members_of_schemas), ("lines with a bound", bounded_lines), ("each character of ASCII", controls),
