@@ -19,6 +19,8 @@ from grammar.likeness import (alike_rows, closed_kind_rows, half_pair_rows, like
                               pair_name_rows, text_end_rows)
 from grammar.notations import (class_content_rows, class_reason_rows, cluster_rows, notation_rows, other_class_rows,
                                page_edge_rows, passed_over_rows, sign_code_rows)
+from grammar.reasons import (behind_call_rows, coded_name_rows, coded_place_rows, half_reason_rows, no_times_rows,
+                             place_reason_rows, tableless_rows, wide_escape_rows)
 from grammar.shared import extension_rows
 from grammar.sizes import (category_edge_rows, common_pattern_rows, count_end_rows, deep_quantifier_rows, depth_rows,
                            edge_of_row_rows, escape_pair_rows, far_row_rows, far_text_rows, front_row_rows,
@@ -67,4 +69,6 @@ def ecma_rows():
                    common_pattern_rows, long_literal_rows, far_text_rows, nested_look_rows, deep_quantifier_rows,
                    count_end_rows, category_edge_rows, name_edge_rows, front_table_rows, name_sequence_rows,
                    escape_pair_rows, depth_rows, row_of_classes_rows, option_in_row_rows, long_sides_rows, far_row_rows,
-                   front_row_rows, unlike_alternative_rows, edge_of_row_rows, extension_rows, row_member_rows)
+                   front_row_rows, unlike_alternative_rows, edge_of_row_rows, extension_rows, row_member_rows,
+                   place_reason_rows, wide_escape_rows, behind_call_rows, half_reason_rows, tableless_rows,
+                   no_times_rows, coded_name_rows, coded_place_rows)
