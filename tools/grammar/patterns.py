@@ -8,6 +8,7 @@ from grammar.looks import (GLANCES, LOOKS_AHEAD, ahead_at_front, ahead_of_c, edg
                            repeated_look_rows, repeated_term_rows, table_rows)
 from grammar.tables import kind_rows, like_class_rows, table_limit_rows
 from grammar.limits import ahead_syntax_rows, limit_rows
+from grammar.members import end_rows
 from grammar.grammar import character_rows, place_rows, whole_property_rows, whole_rows
 from grammar.places import (class_member_rows, edge_character_rows, large_rows, many_rows, needed_rows, never_rows,
                             placed_piece_rows, placed_reason_rows, placed_term_rows, reading_rows, reference_rows,
@@ -71,4 +72,4 @@ def ecma_rows():
                    escape_pair_rows, depth_rows, row_of_classes_rows, option_in_row_rows, long_sides_rows, far_row_rows,
                    front_row_rows, unlike_alternative_rows, edge_of_row_rows, extension_rows, row_member_rows,
                    place_reason_rows, wide_escape_rows, behind_call_rows, half_reason_rows, tableless_rows,
-                   no_times_rows, coded_name_rows, coded_place_rows)
+                   no_times_rows, coded_name_rows, coded_place_rows, end_rows)

@@ -11,7 +11,7 @@ from grammar.labels import ADDED_POINTS, ADDED_STARTS
 SYNTAX = "^$\\.*+?()[]{}|/"
 LINE_ENDS = "\n\r\u2028\u2029"
 # The names of each value of General_Category and of Script (PropertyValueAliases.txt), and behind a colon its first
-# character, where Unicode 17 has one.
+# character, where one is assigned.
 CATEGORIES = (
     "C/Other:0 Cc/cntrl/Control:0 Cf/Format:AD Cn/Unassigned:378 Co/Private_Use:E000 Cs/Surrogate L/Letter:41 "
     "LC/Cased_Letter:41 Ll/Lowercase_Letter:61 Lm/Modifier_Letter:2B0 Lo/Other_Letter:AA Lt/Titlecase_Letter:1C5 "
@@ -34,10 +34,10 @@ SCRIPTS = (
     "Gong/Gunjala_Gondi:11D60 Gonm/Masaram_Gondi:11D00 Goth/Gothic:10330 Gran/Grantha:11300 Grek/Greek:370 "
     "Gujr/Gujarati:A81 Gukh/Gurung_Khema:16100 Guru/Gurmukhi:A01 Hang/Hangul:1100 Han/Hani:2E80 Hano/Hanunoo:1720 "
     "Hatr/Hatran:108E0 Hebr/Hebrew:591 Hira/Hiragana:3041 Hluw/Anatolian_Hieroglyphs:14400 Hmng/Pahawh_Hmong:16B00 "
-    "Hmnp/Nyiakeng_Puachue_Hmong:1E100 Hung/Old_Hungarian:10C80 Ital/Old_Italic:10300 Java/Javanese:A980 Jurc/Jurchen "
-    "Kali/Kayah_Li:A900 Kana/Katakana:30A1 Kawi:11F00 Khar/Kharoshthi:10A00 Khmr/Khmer:1780 Khoj/Khojki:11200 "
-    "Kits/Khitan_Small_Script:16FE4 Knda/Kannada:C80 Krai/Kirat_Rai:16D40 Kthi/Kaithi:11080 Lana/Tai_Tham:1A20 "
-    "Lao/Laoo:E81 Latn/Latin:41 Lepc/Lepcha:1C00 Limb/Limbu:1900 Lina/Linear_A:10600 Linb/Linear_B:10000 Lisu:A4D0 "
+    "Hmnp/Nyiakeng_Puachue_Hmong:1E100 Hung/Old_Hungarian:10C80 Ital/Old_Italic:10300 Java/Javanese:A980 "
+    "Jurc/Jurchen:18E00 Kali/Kayah_Li:A900 Kana/Katakana:30A1 Kawi:11F00 Khar/Kharoshthi:10A00 Khmr/Khmer:1780 "
+    "Khoj/Khojki:11200 Kits/Khitan_Small_Script:16FE4 Knda/Kannada:C80 Krai/Kirat_Rai:16D40 Kthi/Kaithi:11080 "
+    "Lana/Tai_Tham:1A20 Lao/Laoo:E81 Latn/Latin:41 Lepc/Lepcha:1C00 Limb/Limbu:1900 Lina/Linear_A:10600 Linb/Linear_B:10000 Lisu:A4D0 "
     "Lyci/Lycian:10280 Lydi/Lydian:10920 Mahj/Mahajani:11150 Maka/Makasar:11EE0 Mand/Mandaic:840 "
     "Mani/Manichaean:10AC0 Marc/Marchen:11C70 Medf/Medefaidrin:16E40 Mend/Mende_Kikakui:1E800 "
     "Merc/Meroitic_Cursive:109A0 Mero/Meroitic_Hieroglyphs:10980 Mlym/Malayalam:D00 Modi:11600 Mong/Mongolian:1800 "
@@ -45,10 +45,10 @@ SCRIPTS = (
     "Nand/Nandinagari:119A0 Narb/Old_North_Arabian:10A80 Nbat/Nabataean:10880 Newa:11400 Nko/Nkoo:7C0 "
     "Nshu/Nushu:16FE1 Ogam/Ogham:1680 Olck/Ol_Chiki:1C50 Onao/Ol_Onal:1E5D0 Orkh/Old_Turkic:10C00 Orya/Oriya:B01 "
     "Osge/Osage:104B0 Osma/Osmanya:10480 Ougr/Old_Uyghur:10F70 Palm/Palmyrene:10860 Pauc/Pau_Cin_Hau:11AC0 "
-    "Pcun/Proto_Cuneiform Perm/Old_Permic:10350 Phag/Phags_Pa:A840 Phli/Inscriptional_Pahlavi:10B60 "
+    "Pcun/Proto_Cuneiform:125A8 Perm/Old_Permic:10350 Phag/Phags_Pa:A840 Phli/Inscriptional_Pahlavi:10B60 "
     "Phlp/Psalter_Pahlavi:10B80 Phnx/Phoenician:10900 Plrd/Miao:16F00 Prti/Inscriptional_Parthian:10B40 "
     "Rjng/Rejang:A930 Rohg/Hanifi_Rohingya:10D00 Runr/Runic:16A0 Samr/Samaritan:800 Sarb/Old_South_Arabian:10A60 "
-    "Saur/Saurashtra:A880 Seal Sgnw/SignWriting:1D800 Shaw/Shavian:10450 Shrd/Sharada:11180 Sidd/Siddham:11580 "
+    "Saur/Saurashtra:A880 Seal:3D000 Sgnw/SignWriting:1D800 Shaw/Shavian:10450 Shrd/Sharada:11180 Sidd/Siddham:11580 "
     "Sidt/Sidetic:10940 Sind/Khudawadi:112B0 Sinh/Sinhala:D81 Sogd/Sogdian:10F30 Sogo/Old_Sogdian:10F00 "
     "Sora/Sora_Sompeng:110D0 Soyo/Soyombo:11A50 Sund/Sundanese:1B80 Sunu/Sunuwar:11BC0 Sylo/Syloti_Nagri:A800 "
     "Syrc/Syriac:700 Tagb/Tagbanwa:1760 Takr/Takri:11680 Tale/Tai_Le:1950 Talu/New_Tai_Lue:1980 Taml/Tamil:B82 "
