@@ -322,7 +322,8 @@ def main():
     """Tells each claim that does not hold, and counts the claims."""
     tree = Tree()
     counts = {True: 0, False: 0}
-    for ask in [of_documents, of_crates, of_functions, of_counts, of_wrong_definitions, of_versions, of_the_gate, of_measurements]:
+    for ask in [of_documents, of_crates, of_functions, of_counts, of_wrong_definitions, of_versions, of_the_gate,
+                of_measurements]:
         for what, holds in ask(tree):
             counts[bool(holds)] += 1
             if not holds:

@@ -72,7 +72,8 @@ PROPERTIES = ["\\p{Lu}", "\\p{Uppercase_Letter}", "\\P{Ll}", "\\p{L}", "\\P{Lett
               "\\p{gc=Lo}", "\\P{General_Category=Mn}", "\\p{sc=Grek}", "\\P{Script=Greek}", "\\p{Script=Latin}",
               "\\p{sc=Han}", "\\p{sc=Zyyy}", "\\P{sc=Zinh}", "\\p{scx=Grek}", "\\P{Script_Extensions=Latin}",
               "\\p{scx=Zyyy}",
-              "\\p{Any}", "\\P{ASCII}", "\\p{Assigned}", "\\p{Alphabetic}", "\\P{Alpha}", "\\p{Lower}", "\\P{Uppercase}",
+              "\\p{Any}", "\\P{ASCII}", "\\p{Assigned}", "\\p{Alphabetic}", "\\P{Alpha}", "\\p{Lower}",
+              "\\P{Uppercase}",
               "\\p{CI}", "\\p{Cased}", "\\P{CWCF}", "\\p{CWT}", "\\p{Dash}", "\\p{Emoji}", "\\P{EPres}", "\\p{ExtPict}",
               "\\p{Gr_Base}", "\\P{Gr_Ext}", "\\p{Hex}", "\\P{AHex}", "\\p{ID_Start}", "\\p{XIDC}", "\\p{Math}",
               "\\P{Pat_Syn}", "\\p{QMark}", "\\p{SD}", "\\p{space}", "\\P{White_Space}"]

@@ -129,8 +129,8 @@ def in_checks(folder, bodies):
 
 
 def said_of(folder, bodies):
-    """What a check says of the modules in which the wrong bodies stand, or of the whole crate where one has no function;
-    the sources are put back."""
+    """What a check says of the modules in which the wrong bodies stand, or of the whole crate where one has no
+    function; the sources are put back."""
     kept = {file: (folder / file).read_text(encoding="utf-8") for body in bodies for file, _, _ in body.pairs}
     texts = dict(kept)
     for file, old, new in (pair for body in bodies for pair in body.pairs):

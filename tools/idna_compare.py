@@ -84,7 +84,7 @@ class Maker:
 
 
 def answers_of(program, kind, texts):
-    """Which of the texts the program takes for this format: each has a row that expects so, and tells a wrong answer."""
+    """Which of the texts the program takes for this format: each has a row that expects so, and tells a wrong one."""
     rows = "".join(json.dumps({"ask": "texts", "of": kind, "yes": [text]}) + "\n" for text in texts)
     run = subprocess.run(program, cwd=CRATE, input=rows, stdout=subprocess.PIPE, stderr=subprocess.PIPE, text=True,
                          errors="replace")

@@ -1300,7 +1300,8 @@ def lines_that_share_a_schema():
 WRITTEN = ("", "x", "xx", "2024-02-29", LONGER, "\u00e9", "\u6f22", "\U0001f600", "x" * 15, "x" * 16, "x" * 17,
            "x" * 300, "\u00e9" * 40, "}", "{", ":", ",", "[1]", "'", "/", "\x7f", "\u0080", "\u2028", r"\"",
            r"\\", r"\/", r"\b", r"\f", r"\n", r"\r", r"\t", r"\u0041", r"\u00E9", r"\uD83D\uDE00", r"x\"}",
-           r"\"}", r"xxxx\\", r"\"},\"", r"\x", r"\u12", r"\uD83D", r"\uDE00", "\\", "x\\", '"', '""', 'x"x', '"x', 'x"', '"}',
+           r"\"}", r"xxxx\\", r"\"},\"", r"\x", r"\u12", r"\uD83D", r"\uDE00", "\\", "x\\", '"', '""', 'x"x', '"x',
+           'x"', '"}',
            'x","instance":"xx', 'x","draft":"7', 'x","other":"x', 'x","schema":"x', 'x","fold":true,"instance":"xx',
            'x","fold":"true', 'x"},{"a":"x', 'x"}{"a":"x', *(chr(it) for it in range(1, 32) if it != 10),
            *(chr(it) for it in range(32, 127) if it not in (34, 92)))
@@ -1317,7 +1318,7 @@ def answer_to_text(text):
 
 
 def behind_alike(first, *lines):
-    """The row of an input to `run`: so many lines alike that they share an object, and then others, all as they stand."""
+    """The row of an input to `run`: so many lines alike that they share an object, and then others, as they stand."""
     told = [it for it in answer_to_text(first) * 17]
     told += [it for line in lines for it in answer_to_text(line)]
     assert len("\n".join(told)) < LONGEST_SHOWN
@@ -1393,11 +1394,15 @@ def lines_told_by_their_ends():
     def line(draft, schema, text):
         return f'{{"draft":{draft},"schema":{schema},"instance":"{text}"}}'
 
-    drafts = ("4", "6", "7", "201909", "202012", "2019", "20201", "2020120", "70", "07", "-7", "7.0", "7e0", "7E0", '"7"', "[7]",
+    drafts = ("4", "6", "7", "201909", "202012", "2019", "20201", "2020120", "70", "07", "-7", "7.0", "7e0", "7E0",
+              '"7"', "[7]",
               "null", "", " 7", "7 ", "4,6", '7,"draft":4', '7,"fold":true', '"\\u0037"')
-    schemas = ("{}", " {}", "{} ", "{}{}", "{},{}", "{},", ",{}", "[]", "5", '""', "true", "null", "", "{", "}", '{"a"', '{"a":}',
-               '{"maxLength":01}', '{"maxLength":1}', '{"maxLength":1,"maxLength":3}', '{"max\\u004cength":1}', '{"a":"}"}',
-               '{"a":"\\""}', '{"a":"\\\\"}', '{"a":{"maxLength":1}}', '{"instance":"z","maxLength":1}', '[{"maxLength":1}]',
+    schemas = ("{}", " {}", "{} ", "{}{}", "{},{}", "{},", ",{}", "[]", "5", '""', "true", "null", "", "{", "}",
+               '{"a"', '{"a":}',
+               '{"maxLength":01}', '{"maxLength":1}', '{"maxLength":1,"maxLength":3}', '{"max\\u004cength":1}',
+               '{"a":"}"}',
+               '{"a":"\\""}', '{"a":"\\\\"}', '{"a":{"maxLength":1}}', '{"instance":"z","maxLength":1}',
+               '[{"maxLength":1}]',
                '{"maxLength":1},"draft":4', '{"maxLength":1},"instance":"y"', '{"maxLength":1},"instance":5',
                '{"maxLength":1},"fold":true', '{"maxLength":1},"other":1', '{"maxLength":1},"schema":{}',
                '{"maxLength":1},"schema":5', '{"maxLength":1.5}', '{"minLength":-1,"maxLength":1}', '{"maxLength":1}]')

@@ -5,12 +5,12 @@
     python3 tools/suite_compare.py FOLDER          another copy: the folder that has `draft7`, `draft2020-12`, ..
 
 It wants the program that `rt run` has built in `crates/neldrafi`. A case counts if its schema object has no keyword but
-those of this library, and at most `"type": "string"` beside them. Its instances are lines of JSON, and each line with an
-error is an instance that is not valid. Formats are checked, so the file `format.json` of 2019-09 and 2020-12, by which
-no format is, is left out.
+those of this library, and at most `"type": "string"` beside them. Its instances are lines of JSON, and each line with
+an error is an instance that is not valid. Formats are checked, so the file `format.json` of 2019-09 and 2020-12, by
+which no format is, is left out.
 
-Each case with another answer is told. `KNOWN` lists those that docs/DIFFERENCES.md names with the rule that decides. The
-status is 1 if one is not listed, or if one that is listed agrees. It is no part of the gate.
+Each case with another answer is told. `KNOWN` lists those that docs/DIFFERENCES.md names with the rule that decides.
+The status is 1 if one is not listed, or if one that is listed agrees. It is no part of the gate.
 """
 import json
 import subprocess
@@ -51,7 +51,8 @@ def verdicts(draft, schema, tests):
         json.dump(schema, file)
         file.flush()
         lines = "".join(json.dumps(test["data"]) + "\n" for test in tests)
-        run = subprocess.run([PROGRAM, "check", "--json", "--ignore-unknown-formats", "--output", "json", "--draft", draft,
+        run = subprocess.run([PROGRAM, "check", "--json", "--ignore-unknown-formats", "--output", "json", "--draft",
+                              draft,
                               file.name], input=lines, capture_output=True, text=True)
     if run.returncode > 1:
         return [run.stderr.strip()] * len(tests)

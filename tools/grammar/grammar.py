@@ -340,5 +340,6 @@ def place_rows():
     yield "the whole grammar: atoms of a class one behind another, surrogates among them"
     fronts = [(), ("a", "-", "\\uD83D"), ("\\uD83D", "-", "\\uD83D"), ("\\uE000", "-", "\\uD83D")]
     tails = [tail for size in range(1, 4) for tail in itertools.product(CLASS_ATOMS, repeat=size)]
-    classes = {"[" + "".join(front + tail) + "]": are_class_contents(front + tail) for front in fronts for tail in tails}
+    classes = {"[" + "".join(front + tail) + "]": are_class_contents(front + tail) for front in fronts
+               for tail in tails}
     yield texts(WHOLE_PATTERNS, classes, classes.get)

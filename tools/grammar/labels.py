@@ -526,7 +526,8 @@ def permission_rows():
     yield "each ASCII character beside a character past ASCII"
     yield from idn_characters(beside_wide + [["xn-", "\u00fc"], ["\u00fcn-", "a"]], ASCII)
     yield "each ASCII character in a label of its own, alone and beside a U-label"
-    places = [["", ""], ["a", "b"], ["a.", ".b"], ["", ".\u00fc"], ["\u00fc.", ""], ["a", "b.\u00fc"], ["\u00fc.a", "b"]]
+    places = [["", ""], ["a", "b"], ["a.", ".b"], ["", ".\u00fc"], ["\u00fc.", ""], ["a", "b.\u00fc"],
+              ["\u00fc.a", "b"]]
     yield from idn_characters(places, ASCII)
 
 
@@ -631,8 +632,8 @@ RIGHT_FORMS = [
     "\u06f00", "xn\u00fc", "\u00fcxn--a"]
 PAYLOADS = ["-", "--", "---", "-a", "a-", "a--", "kva", "99999999", "9999a", "a9999a", "-kva", "bcher--kva",
             "bcher-kvab", "0", "z", "zz", "00000", "hb9b", "ib9b", "0y0c"]
-# Those past ASCII, and geresh and gershayim behind what is not Hebrew and runs from right to left too: they may stand at
-# any place of a name.
+# Those past ASCII, and geresh and gershayim behind what is not Hebrew and runs from right to left too: they may stand
+# at any place of a name.
 PLACED_FORMS = [form for form in WRONG_FORMS + RIGHT_FORMS if not form.isascii()]
 PLACED_FORMS += ["\u05f3", "\u0628\u05f3", "\u05d0\u05f3\u05f3"]
 PLACED_FORMS += ["\u05f4", "a\u05f4", "\u0628\u05f4", "\u05d0\u05f3\u05f4"]

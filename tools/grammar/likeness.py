@@ -177,7 +177,8 @@ def pair_name_rows():
 
 
 # What may stand behind the end of what a pattern looks for; no character of a text is left out of it.
-TEXT_TAILS = [*ASCII, *"\u0080\u0085\u00a0\u2028\u2029\u200b\u200d\u3000\ufeff\uffff\U0001f600\U0010ffff", "\r\n", "\n\n",
+TEXT_TAILS = [*ASCII, *"\u0080\u0085\u00a0\u2028\u2029\u200b\u200d\u3000\ufeff\uffff\U0001f600\U0010ffff", "\r\n",
+              "\n\n",
               "\n\r", "\r\r", "\n\u2028", "\0\0", "\u001a\u001a", "\n\0", "\u001a\n", "  ", "\ufe0f", "\u0301"]
 
 

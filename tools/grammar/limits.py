@@ -142,7 +142,8 @@ def limits_of_patterns():
                 yield [[form % most, 1]], [[letter, most + beside + more]], more < 1
 
 
-# What stands for itself behind a backslash without the flag `u`: ASCII but letters, digits, blanks, SyntaxCharacter, `/`.
+# What stands for itself behind a backslash without the flag `u`: ASCII but letters, digits, blanks, SyntaxCharacter
+# and `/`.
 NEEDLESSLY_ESCAPED = "!\"#%&',-:;<=>@_`~"
 NOT_A_PATTERN = "it is no pattern of ECMA-262 in Unicode mode"
 NOT_TAKEN = "it has a part of ECMA-262 that is not taken here"
@@ -239,7 +240,8 @@ def rows_of_two_reasons():
     whole = "a{5000}a{201}"
     for first, why in REASONS.items():
         others = [second for second, other in REASONS.items() if other != why]
-        yield refusals(why, [form.format(first, second) for second in others for form in ("{}{}", "{}|b{}", "{}(?={})")])
+        yield refusals(why, [form.format(first, second) for second in others
+                             for form in ("{}{}", "{}|b{}", "{}(?={})")])
         yield refusals(why, [f"{whole}{first}", f"{first}{whole}", f"(?:{whole})(?={first})", f"(?<n>a)(?<n>b){first}"])
     unlike = ("(?<n>a)(?<n>b){}", "{}(?<n>a)(?<n>b)", "(?<n>a){}(?<n>b)", "\\00{}", "{}\\00", "({}", "{})", "{}[",
               "[{}", "{}\\", "{}(?", "{}a{{", "{}\\p{{", "*{}", "{}**", "{}(?<n", "{}[\\!]", "{}[b-a]", "{}(?<=", "{}]")

@@ -303,7 +303,8 @@ def stands_behind(body, text, place):
 
 def near_both_rows():
     """Each body of a lookbehind before a lookahead that looks far, and of a lookahead behind a lookbehind that does."""
-    yield "each body of a lookbehind beside a lookahead that looks far, and of a lookahead beside a lookbehind that does"
+    yield ("each body of a lookbehind beside a lookahead that looks far, "
+           "and of a lookahead beside a lookbehind that does")
     beside = list(itertools.product(words("ab", range(3)), ("ab", "ba")))
     for bodies in (GLANCES_BEHIND, FAR_BEHIND):
         rows = []
@@ -325,7 +326,8 @@ def near_both_rows():
     told = [[f"(?<={body})c(?=ab)", body in GLANCES_BEHIND] for body in GLANCES_BEHIND + FAR_BEHIND]
     told += [[f"(?<=ab)c(?={body})", body in GLANCES] for body in GLANCES + FAR]
     told += [[f"c(?={body})", True] for body in GLANCES + FAR]
-    for times, is_left_out in {"{0}": True, "{0,0}": True, "{1}": False, "{0,1}": False, "?": False, "*": False}.items():
+    for times, is_left_out in {"{0}": True, "{0,0}": True, "{1}": False, "{0,1}": False, "?": False,
+                               "*": False}.items():
         told += [[f"(?:(?<=ab)c){times}(?=ab)", is_left_out], [f"(?<=ab)(?:(?=ab)c){times}", is_left_out]]
     both_ways = "a(?<=ba*)c(?=b*a)"
     told += [[form.format(both_ways), False] for form in (

@@ -178,7 +178,8 @@ def repeated_count_rows():
                  [f"^(?:b|a{quantifier})$", letters, stands], [f"^b$|^a{quantifier}$", letters, stands],
                  [f"^b|ca{quantifier}$", f"c{letters}", stands], [f"b(?=a{quantifier}$)", f"b{letters}", stands],
                  [f"b(?!a{quantifier}$)", f"b{letters}", not stands], [f"(?<=^a{quantifier})b", f"{letters}b", stands],
-                 [f"(?<!^a{quantifier})b", f"{letters}b", not stands], [f"b(?=c|a{quantifier}$)", f"b{letters}", stands],
+                 [f"(?<!^a{quantifier})b", f"{letters}b", not stands],
+                 [f"b(?=c|a{quantifier}$)", f"b{letters}", stands],
                  [f"^(?=a{quantifier}$)", letters, stands], [f"(?<=^b|^a{quantifier})c", f"{letters}c", stands]]
     yield searches(rows)
 
@@ -251,7 +252,8 @@ def placed_reason_rows():
               for times in ("{5001}", "{5001,}", "{1,5001}")]
     yield refusals(MORE_TIMES, in_forms(PLACES_OF_REASONS, above))
     openings = ("(", "(?:", "(?<n>", "(?=", "(?!", "(?<=", "(?<!")
-    behind = [f"{before}{opening}a" for before in ("a", "a|", "a*", "a{2}?", "^", "(?=a)", "[^a]") for opening in openings]
+    behind = [f"{before}{opening}a" for before in ("a", "a|", "a*", "a{2}?", "^", "(?=a)", "[^a]")
+              for opening in openings]
     yield refusals("its groups are more than 250 deep", [f"{'(' * 250}{piece}" for piece in behind])
 
 

@@ -369,7 +369,8 @@ def texts_in_a_row(classes, at, between):
 
 
 # Rows between the ends of a text, in which a class may be missing at each `{}`.
-ROWS_WITH_OPTION = ["{}[b-d]{{2,5}}", "{}[b-d]*", "{}[b-d]+e", "[b-d]{{2,5}}{}", "[b-d]+{}", "[b-d]*{}e", "x{}[b-d]{{3}}",
+ROWS_WITH_OPTION = ["{}[b-d]{{2,5}}", "{}[b-d]*", "{}[b-d]+e", "[b-d]{{2,5}}{}", "[b-d]+{}", "[b-d]*{}e",
+                    "x{}[b-d]{{3}}",
                     "xx{}yy[b-d]+zz", "[b-d]{{0,9}}{}zz", "x{}y{}[b-d]+", "{}[b-d]*{}", "x{}y", "[b-d]{{0,300}}{}"]
 OPTIONS = ["a?", "a{0,1}", "[ab]?", "[^b-d]?", "(?:a)?", "a??", "[à-ö]?", "b?", "(?:a|)", "(?:|a)"]
 

@@ -102,7 +102,8 @@ LIKE_CLASSES = ["[b-d]", "[a-d]", "[b-e]", "[b-c]", "[c-d]", "[b-dx]", "[xb-d]",
                 "[\\p{Lu}b-d]", "[\\p{Lu}b-e]"]
 # What has each property of them, of the characters below.
 OF_LIKE_CLASSES = "abcdexyA\u03a9\u03b1.\uffff"
-HAVING = {"\\p{Lu}": "A\u03a9", "\\p{Ll}": "abcdexy\u03b1", "\\p{L}": "abcdexyA\u03a9\u03b1", "\\p{sc=Latn}": "abcdexyA",
+HAVING = {"\\p{Lu}": "A\u03a9", "\\p{Ll}": "abcdexy\u03b1", "\\p{L}": "abcdexyA\u03a9\u03b1",
+          "\\p{sc=Latn}": "abcdexyA",
           "\\p{sc=Grek}": "\u03a9\u03b1", "\\p{Alpha}": "abcdexyA\u03a9\u03b1", "\\p{Lower}": "abcdexy\u03b1",
           "\\p{Any}": OF_LIKE_CLASSES, "\\p{ASCII}": "abcdexyA.", "\\p{Assigned}": OF_LIKE_CLASSES[:-1]}
 

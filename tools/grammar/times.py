@@ -225,7 +225,8 @@ def decorated_times():
     yield changed_row("date", ("2024-02-29", "1999-12-31", "0400-10-01"), is_date)
     yield changed_row("time", ("12:30:45Z", "09:59:08.5+01:00", "23:00:59.12-23:59"), is_time_of_day)
     yield changed_row("date-time", ("2024-02-29T12:30:45z", "1999-12-31t23:59:59.9-00:01"), is_moment)
-    wholes = ("P1Y2M3DT4H5M6S", "P20W", "P1MT2M", "PT10S", "P3DT1H", "P1M2D", "P1Y2M", "PT1M2S", "PT1H2M", "P1D", "PT1H")
+    wholes = ("P1Y2M3DT4H5M6S", "P20W", "P1MT2M", "PT10S", "P3DT1H", "P1M2D", "P1Y2M", "PT1M2S", "PT1H2M", "P1D",
+              "PT1H")
     yield changed_row("duration", wholes, whole(DURATION))
 
 

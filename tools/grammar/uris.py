@@ -180,7 +180,8 @@ def uri_construct_rows():
     schemes = ("http", "https", "ftp", "file", "ws", "urn", "mailto", "tel", "data", "news", "ldap", "javascript",
                "about", "geo", "tag", "uuid", "localhost", "HTTP", "x" * 40)
     behinds = ("", "a", "//", "///", "/", "//a", "/a", "a@b", "//a@b", "a:b", "+1-2", "abc", ",", "//:80", "//-a-",
-               "//a_b", "//.", "//a..b", "//a.", "//1.2.3", "//256.1.1.1", "//xn--a", "///C:/a", "//a:99999", "?a", "#a",
+               "//a_b", "//.", "//a..b", "//a.", "//1.2.3", "//256.1.1.1", "//xn--a", "///C:/a", "//a:99999", "?a",
+               "#a",
                "*", "//%00")
     yield texts("uri", [f"{scheme}:{behind}" for scheme in schemes for behind in behinds], URI_RULES["uri"])
     for letters in ("a1\u05d0\u0660", "e\u0301\u00c9\u0958", "a\u200d\u0627\uff41", "\u4e00\u0430-\u30fb"):
