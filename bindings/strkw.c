@@ -120,8 +120,8 @@ uint8_t strkw_errors(uint32_t draft, uint32_t options, const uint8_t *schema, si
                                 out != NULL ? out : no_room, room, written);
 }
 
-/* What crates/strkw_c keeps a compiled schema object in, as its src/handle.rt has it. One of zeroed memory keeps nothing.
-   One call at a time has a handle. */
+/* What crates/strkw_c keeps a compiled schema object in, as its src/handle.rt has it. One of zeroed memory keeps
+   nothing. One call at a time has a handle. */
 struct handle {
     bool is_full;
     void *at;

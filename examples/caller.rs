@@ -1,5 +1,5 @@
-//! Calls the library from Rust: every row of a table, a file of requests against its stored answers, texts by one schema,
-//! and why a schema is refused.
+//! Calls the library from Rust: every row of a table, a file of requests against its stored answers, texts by one
+//! schema, and why a schema is refused.
 //! caller FORMATS REQUESTS ANSWERS; it panics where something is not as it is stored.
 
 use std::{env, fs};
@@ -15,7 +15,9 @@ mod strkw {
             unsafe extern "C" {
                 $(fn $format(text: *const u8, count: usize) -> bool;)*
                 $(fn $decision(text: *const u8, count: usize) -> u8;)*
-                fn strkw_answer(requests: *const u8, count: usize, out: *mut u8, room: usize, written: *mut usize) -> u8;
+                fn strkw_answer(
+                    requests: *const u8, count: usize, out: *mut u8, room: usize, written: *mut usize,
+                ) -> u8;
                 fn strkw_check(
                     draft: u32, options: u32, schema: *const u8, schema_count: usize,
                     texts: *const u8, texts_count: usize,
@@ -67,7 +69,8 @@ mod strkw {
         Some(unsafe { check(text.as_ptr(), text.len()) })
     }
 
-    /// Whether the bytes are of a format or an encoding that takes memory; `None` for a name that is none, or out of memory.
+    /// Whether the bytes are of a format or an encoding that takes memory; `None` for a name that is none, or where
+    /// memory is out.
     pub fn is_decided(name: &str, text: &[u8]) -> Option<bool> {
         let (_, check) = DECISIONS.iter().find(|row| row.0 == name)?;
         match unsafe { check(text.as_ptr(), text.len()) } {
