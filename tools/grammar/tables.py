@@ -54,6 +54,10 @@ def table_limit_rows():
         # The chain of classes, the state before it, and that behind another character.
         most = MOST_ENTRIES // columns - 2 - len(classes)
         rows += [[f"^{''.join(classes)}{classes[0]}{{{most + more}}}$", more < 1] for more in (-1, 0, 1, 2)]
+    # Where each class has all characters, no state is left in which nothing goes on: so there is one row fewer.
+    for beside, form in itertools.product((0, 1, 3), ("{0}[^]{{{1}}}[^]*", "[^]{{{1}}}{0}[^]+", "{0}[^]{{{1},}}")):
+        most = most_counted(1, beside + 2, 2, 1, 2 * beside + 5)
+        rows += [[f"^{form.format('[^]' * beside, most + more)}$", more < 1] for more in (0, 1)]
     yield tables(rows)
     yield "searches for these patterns"
     for more in (0, 1):
