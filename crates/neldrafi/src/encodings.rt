@@ -46,8 +46,8 @@ impl Encoding {
         None
     }
 
-    /// Whether the byte behind these, the first of a file, may tell more: they begin a byte order mark, or what tells an
-    /// encoding, and are not yet all of it.
+    /// Whether the byte behind these, the first of a file, may tell more: they begin a byte order mark, or what tells
+    /// an encoding, and are not yet all of it.
     pub(crate) fn is_open(head: &[u8]) -> bool {
         is_front(head, MARK)
             || SIGNATURES

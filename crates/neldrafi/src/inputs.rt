@@ -111,8 +111,8 @@ impl InputFile {
         }
     }
 
-    // The file whose bytes come from a source. So many bytes are read as may tell what it is, so that none is waited for
-    // that is not wanted.
+    // The file whose bytes come from a source. So many bytes are read as may tell what it is, so that none is waited
+    // for that is not wanted.
     fn of_source(alloc: Global, mut source: Source) -> Result<InputFile, AllocError> {
         let mut head = Vec::new(alloc);
         let mut failure = None;

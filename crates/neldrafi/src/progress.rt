@@ -1,5 +1,5 @@
-//! How far the check of a CSV file is, on standard error: a line at each million records, or on a terminal one line that
-//! is written anew.
+//! How far the check of a CSV file is, on standard error: a line at each million records, or on a terminal one line
+//! that is written anew.
 
 use crate::columns::names_of;
 use crate::inputs::InputFile;

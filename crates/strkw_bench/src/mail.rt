@@ -52,7 +52,8 @@ fn are_labels(bytes: &[u8]) -> bool {
     length > 0 && before != b'-'
 }
 
-// Whether a text is atoms of at most 64 bytes, `@`, and labels of at most 255. It knows no quoted string and no literal.
+// Whether a text is atoms of at most 64 bytes, `@`, and labels of at most 255. It knows no quoted string and no
+// literal.
 fn is_plain_address(text: &str) -> bool {
     let bytes = text.as_bytes();
     match bytes.iter().position(|byte| *byte == b'@') {

@@ -8,8 +8,8 @@ use crate::unboxed::Unboxed;
 use std::alloc::Global;
 use std::mem::replace;
 
-/// A place for a kept object, and whether it is full. One of zeroed memory is empty. `struct handle` of bindings/strkw.c
-/// is laid out like it.
+/// A place for a kept object, and whether it is full. One of zeroed memory is empty. `struct handle` of
+/// bindings/strkw.c is laid out like it.
 #[repr(C)]
 pub struct Handle {
     is_full: bool,

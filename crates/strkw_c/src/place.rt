@@ -12,8 +12,8 @@ use std::alloc::Global;
 use std::marker::Model;
 use std::ptr::null_mut;
 
-/// A place for a kept object. By the ghost field alone it is known whether there is one. To C the pointer is one to bytes,
-/// since no type that shares memory by rules of its own may stand in what C has.
+/// A place for a kept object. By the ghost field alone it is known whether there is one. To C the pointer is one to
+/// bytes, since no type that shares memory by rules of its own may stand in what C has.
 #[repr(C)]
 pub struct Place {
     at: *mut u8,

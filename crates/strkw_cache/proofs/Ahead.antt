@@ -677,8 +677,8 @@ module _ (rest : List ℕ) where
   all_ahead zero (x ∷ xs) short = absurd (omega (arith, short))
   all_ahead (suc n) (x ∷ xs) short = by_class (class x) x xs refl (λ ys shorter. all_ahead n ys (omega (arith, short, shorter)))
 
--- So a text whose tokens are good, and whose last one is a bracket or a key, is read first, and then what stands behind it,
--- from the place that it leaves.
+-- So a text whose tokens are good, and whose last one is a bracket or a key, is read first, and then what stands behind
+-- it, from the place that it leaves.
 pub read_ahead : (xs rest : List ℕ) → AreGood (tokens xs) → LastAlone true (tokens xs)
     → tokens (xs ++ rest) ≡ tokens xs ++ punctuate (left_at fresh (tokens xs)) (lex between rest)
 read_ahead xs rest good alone = all_ahead rest (length xs) xs (omega arith) fresh true good alone

@@ -26,9 +26,9 @@ pub struct Asked<'a> {
     pub text: &'a str,
 }
 
-/// What a line asks, of whose object the values are read. The line has the draft, the object and a text without escapes,
-/// in this order, no option, and nothing between the tokens around the object. It is `None` of another line, and where
-/// the object is the one that is cached.
+/// What a line asks, of whose object the values are read. The line has the draft, the object and a text without
+/// escapes, in this order, no option, and nothing between the tokens around the object. It is `None` of another line,
+/// and where the object is the one that is cached.
 ///
 /// The only error is out of memory.
 pub fn read_asked<'a>(

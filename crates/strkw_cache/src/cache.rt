@@ -21,9 +21,9 @@ use std::alloc::{AllocError, Global};
 use strkw_json::JsonError;
 use strkw_object::OwnedValues;
 
-// So many lines in turn have a schema object of one length and the same terms before the first is cached, if its text is
-// that of the eighth of them. Before the next is cached they are so many more, less one for each line that the first has
-// answered.
+// So many lines in turn have a schema object of one length and the same terms before the first is cached, if its text
+// is that of the eighth of them. Before the next is cached they are so many more, less one for each line that the first
+// has answered.
 const LINES_BEFORE: usize = 16;
 
 const LINES_BEFORE_TEXT: usize = 8;
@@ -201,9 +201,9 @@ impl Cache {
         self.object = None;
     }
 
-    /// Sees the object of a line, or `None` where the cached one answered it. The object is cached where enough lines in
-    /// turn have one of its length and the same terms, and some of them its text. The first lines that it answers are
-    /// looked at for what they begin with, until that is known.
+    /// Sees the object of a line, or `None` where the cached one answered it. The object is cached where enough lines
+    /// in turn have one of its length and the same terms, and some of them its text. The first lines that it answers
+    /// are looked at for what they begin with, until that is known.
     ///
     /// The only error is out of memory. Then the object is the one that was cached before.
     pub fn see(
@@ -249,7 +249,8 @@ impl Cache {
         Ok(())
     }
 
-    // Finds what the lines begin with that ask the cached object of a text, in one that it has answered, unless it is known.
+    // Finds what the lines begin with that ask the cached object of a text, in one that it has answered, unless it is
+    // known.
     fn find_front(
         &mut self,
         alloc: Global,

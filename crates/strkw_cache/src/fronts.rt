@@ -78,8 +78,8 @@ fn take_front(tokens: &mut Reader<'_>, draft: Draft, object: &[OwnedToken]) -> O
     Some(())
 }
 
-// What stands behind the key of the schema object in the front of a line, where this draft is all that stands before it,
-// with nothing between the tokens.
+// What stands behind the key of the schema object in the front of a line, where this draft is all that stands before
+// it, with nothing between the tokens.
 fn behind_draft(front: &str, draft: Draft) -> Option<&str>
     ensures { IfSome result (λ behind. (named : Numbered draft) × ((rest : List ℕ)
         → tokens_of_text (front.now ++ rest)
@@ -90,8 +90,8 @@ fn behind_draft(front: &str, draft: Draft) -> Option<&str>
     Some(behind.strip_prefix(",\"schema\":")?)
 }
 
-/// The draft of a line that begins with it, with nothing between the tokens before its schema object, and what stands from
-/// that object on.
+/// The draft of a line that begins with it, with nothing between the tokens before its schema object, and what stands
+/// from that object on.
 pub fn split_draft(line: &str) -> Option<(Draft, &str)>
     ensures { IfSome result (λ found. (named : Numbered found.0) × ((rest : List ℕ)
         → tokens_of_text (line.now ++ rest)
@@ -105,8 +105,8 @@ pub fn split_draft(line: &str) -> Option<(Draft, &str)>
     None
 }
 
-/// The draft and the text of the object in what stands in a line before the text that it asks the object of, where these
-/// come in this order, no option stands beside them, and nothing between the tokens.
+/// The draft and the text of the object in what stands in a line before the text that it asks the object of, where
+/// these come in this order, no option stands beside them, and nothing between the tokens.
 pub(super) fn split_front(before: &str) -> Option<(Draft, &str)>
     ensures { IfSome result (λ found. (named : Numbered found.0) × ((rest : List ℕ)
         → tokens_of_text (before.now ++ rest) ≡ line_tokens named.number
@@ -132,8 +132,9 @@ pub(super) fn split_text(line: &str) -> Option<(&str, &str)>
     }
 }
 
-/// What stands in this line before the text that it asks the object of, with the quotation mark that begins the text. It
-/// is none where the line has an option, has the members in another order, or does not end with a text without escapes.
+/// What stands in this line before the text that it asks the object of, with the quotation mark that begins the text.
+/// It is none where the line has an option, has the members in another order, or does not end with a text without
+/// escapes.
 pub(super) fn front_in(
     alloc: Global,
     scratch: &mut Scratch,
@@ -162,8 +163,8 @@ pub(super) fn front_in(
     Ok(Some(front))
 }
 
-/// Whether each byte stands for itself in a string of JSON (RFC 8259, section 7). All are looked at, so that many are at
-/// a time.
+/// Whether each byte stands for itself in a string of JSON (RFC 8259, section 7). All are looked at, so that many are
+/// at a time.
 pub(super) fn are_plain(bytes: &[u8]) -> bool
     ensures { IsTrue result → PlainBetween bytes.now 0 (length bytes.now) }
 {

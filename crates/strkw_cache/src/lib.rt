@@ -1,5 +1,5 @@
-//! The schema object of a request: read of the tokens of a line, compiled under the terms of the request, and kept where
-//! lines share it.
+//! The schema object of a request: read of the tokens of a line, compiled under the terms of the request, and kept
+//! where lines share it.
 #![tactic(auto)]
 
 mod asked;

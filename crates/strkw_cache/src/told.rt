@@ -8,8 +8,8 @@ use std::alloc::{AllocError, Global};
 use strkw_print::{push_notes, push_refusal};
 
 /// Appends what each answer by what a schema object is compiled to tells behind the errors of a text: the lines of the
-/// notes, and `end`. A refusal is the whole answer. Out of memory is no answer, and is passed on. What is told may be at
-/// hand.
+/// notes, and `end`. A refusal is the whole answer. Out of memory is no answer, and is passed on. What is told may be
+/// at hand.
 pub fn push_told(
     alloc: Global,
     compiled: &Compiled,

@@ -92,9 +92,9 @@ pub(super) struct Line<'a> {
     cached: Option<&'a CachedObject>,
 }
 
-// The schema object that the value of a member is: the one that is cached, where the line has its text here, or else one
-// whose values are read. Any other value is passed over, and not built. It differs where the text is not that of the
-// tokens.
+// The schema object that the value of a member is: the one that is cached, where the line has its text here, or else
+// one whose values are read. Any other value is passed over, and not built. It differs where the text is not that of
+// the tokens.
 fn read_schema<'a>(
     alloc: Global,
     line: Line<'a>,
@@ -276,8 +276,8 @@ fn request_behind<'a>(
     }
 }
 
-// The request that a text is by its members, in whatever order they come. Where the draft and the schema object come first,
-// with nothing between the tokens, the draft is told by the bytes.
+// The request that a text is by its members, in whatever order they come. Where the draft and the schema object come
+// first, with nothing between the tokens, the draft is told by the bytes.
 fn request_in_text<'a>(
     alloc: Global,
     text: &'a str,
@@ -342,8 +342,8 @@ fn read_members<'a>(
 }
 
 /// The request that a line is, or `None` where it is none. The scratch is held from line to line, and a schema object
-/// may be cached, which is then not read anew; of another one the values are read. A line that asks the cached object of
-/// a text, and has no option, is told by its bytes, and one that asks another object so by the bytes around that. It
+/// may be cached, which is then not read anew; of another one the values are read. A line that asks the cached object
+/// of a text, and has no option, is told by its bytes, and one that asks another object so by the bytes around that. It
 /// differs where the line has the text of the object that is cached, and other tokens.
 pub(super) fn read_request<'a>(
     alloc: Global,

@@ -64,8 +64,8 @@ fn text_of_lines(piece: &[u8]) -> &str
     }
 }
 
-// Answers the line that ends here, and keeps none of it. A line that lies whole in the piece is not copied, and not asked
-// whether it is UTF-8 where its text is known.
+// Answers the line that ends here, and keeps none of it. A line that lies whole in the piece is not copied, and not
+// asked whether it is UTF-8 where its text is known.
 fn answer_ending(
     alloc: Global,
     ending: &[u8],

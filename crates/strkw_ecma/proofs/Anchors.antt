@@ -29,7 +29,8 @@ word_member : (o : Option ℕ) → (is_word o ≡ true) ↔ ((c : ℕ) × (o ≡
 word_member None = (λ e. absurd (true≢false (sym e)), λ found. ap is_word found.1 ∙ found.2)
 word_member (Some c) = (λ e. (c, refl, e), λ found. ap is_word found.1 ∙ found.2)
 
--- a character of a word stands before a place exactly where `\w` matches up to it, and behind it where it matches from it on
+-- a character of a word stands before a place exactly where `\w` matches up to it, and behind it where it matches from
+-- it on
 word_before : (text : List ℕ) (i : ℕ) → (is_word (before text i) ≡ true) ↔ ((k : ℕ) × Matches text word_character k i)
 word_before text zero = (λ e. absurd (true≢false (sym e)), λ found. absurd (omega (arith, found.1.3)))
 word_before text (suc k) =

@@ -1,4 +1,5 @@
--- Each match of a pattern reads the character that is seen to be needed, so in a text without it the pattern is not found.
+-- Each match of a pattern reads the character that is seen to be needed, so in a text without it the pattern is not
+-- found.
 use Rattle.std.proofs.Common.{◌≡◌, ◌⊎◌, ℕ, zero, suc, ◌-◌, ◌<◌, ◌≤◌, nat_lt, ◌==◌, Bool, true, false, ◌&&◌, List, [], ◌∷◌, reverse}
 use Rattle.std.proofs.Common.{Option, Some, None, slice_get, if◌then◌else◌, length, get_or, true≢false, refl, sym, ap, subst, ◌∙◌, inl, inr, ⊎_elim, arith}
 use Rattle.std.specs.Prelude.{◌≢◌, is_some, not}

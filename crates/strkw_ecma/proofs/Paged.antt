@@ -148,7 +148,8 @@ column_added classes keys later plain more_plain pages cells more_cells key page
       };
     }
 
--- the cells of a page up to an end, where those up to a place were right, and the others are of characters that share a column
+-- the cells of a page up to an end, where those up to a place were right, and the others are of characters that share a
+-- column
 pub cells_filled : (classes : List (Vec CharSet Global)) (keys later page filled : List ℕ) (first place end last column : ℕ) → IsFront keys later
     → ((j : ℕ) → j < place → InScalarRange (first + j) → column_of classes keys (first + j) ≡ Some (get_or page j 0))
     → ((j : ℕ) → place ≤ j → j < end → get_or filled j 0 ≡ column) → ((j : ℕ) → j < place → get_or filled j 0 ≡ get_or page j 0) → first + end ≤ last

@@ -1,4 +1,5 @@
--- Searches whose marks are told, with their steps counted: they come to what is defined, within the steps of their patterns.
+-- Searches whose marks are told, with their steps counted: they come to what is defined, within the steps of their
+-- patterns.
 use Rattle.std.proofs.Common.{◌≡◌, ℕ, suc, ◌+◌, ◌*◌, Bool, true, false, ◌||◌, List, [], ◌∷◌, ◌++◌, length, drop, Option, Some, None}
 use Rattle.std.proofs.Common.{append-nil, refl, sym, ap, ◌∙◌, arith}
 use Rattle.strkw_ecma.specs.Tree.{Pattern, empty, class, look, cat, alt, star, plus, lookbehind, lookahead}

@@ -1,4 +1,5 @@
--- What the code puts aside of an outline: by what the outline stands for, what is asked of its parts, and what is left of it.
+-- What the code puts aside of an outline: by what the outline stands for, what is asked of its parts, and what is left
+-- of it.
 use Rattle.std.proofs.Common.{◌≡◌, ℕ, zero, suc, ◌+◌, ◌-◌, ◌≤◌, Bool, true, false, not, ◌&&◌, ◌==◌, if◌then◌else◌, List, [], ◌∷◌, ◌++◌, Option, Some, None, Vec}
 use Rattle.std.proofs.Common.{Box, Global}
 use Rattle.std.proofs.lemmas.Bool.Decides.{nat_tests}

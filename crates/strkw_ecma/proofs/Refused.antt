@@ -47,7 +47,8 @@ use Rattle.strkw_ecma.specs.machine.CodeReading.{value_or}
 use Rattle.strkw_ecma.specs.machine.Makers.{patterns, value_if, trees}
 use Rattle.strkw_ecma.proofs.BetweenTerms.{standing}
 
--- well-formed open groups and lookbehinds, and a well-formed tree within them, are spelled as what a pattern may begin with
+-- well-formed open groups and lookbehinds, and a well-formed tree within them, are spelled as what a pattern may begin
+-- with
 beginning : (os : List (Open trees)) (d : Disjunction) → AreLevels os → IsWellFormed (length os) d → IsBeginning (length os) (outer_spelling os ++ spelling d)
 beginning [] d f w = (d, w, refl)
 beginning (o ∷ os) d f w = (

@@ -95,7 +95,8 @@ pub entry_finds : (p : Pattern) (end : ℕ) (states : List State) (s : State) (r
     → IsEntry p end states s row c found_row
 entry_finds p end states s row c is = record { finds = sym is; goes = λ none. absurd (true≢false (sym is ∙ none)) }
 
--- the entry that is the place of the row of a number is right where the pattern is not left, and the state of the number is behind the character
+-- the entry that is the place of the row of a number is right where the pattern is not left, and the state of the
+-- number is behind the character
 pub entry_leads : (p : Pattern) (end : ℕ) (states : List State) (s : State) (row c entry number : ℕ) (ms : List Bool)
     → leaves s.last (Some c) (marks_in p s) true ≡ false → mark_classes ms p ≡ step s.last (Some c) (marks_in p s) true → IsStateOf p states number ms c
     → (entry ≡ number * (end + 1)) × (entry < next_row) → IsEntry p end states s row c entry

@@ -1,4 +1,5 @@
--- Each pattern has searches that find it, whatever its lookarounds, and that take no more steps than are counted for it.
+-- Each pattern has searches that find it, whatever its lookarounds, and that take no more steps than are counted for
+-- it.
 use Rattle.std.proofs.Common.{◌≡◌, ℕ, ◌+◌, ◌*◌, ◌≤◌, Bool, true, false, not, ◌||◌, List, [], ◌∷◌, ◌++◌, length, Option, Some, None, slice_get}
 use Rattle.std.proofs.Common.{if◌then◌else◌, append-nil, refl, sym, ap, subst, ◌∙◌, arith}
 use Rattle.std.proofs.lemmas.List.{append_assoc}

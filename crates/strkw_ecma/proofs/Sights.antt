@@ -13,8 +13,8 @@ use Rattle.strkw_ecma.proofs.Mirrors.{stays, begins_turned}
 use Rattle.strkw_ecma.proofs.Unmarked.{clean_unmarked, mirror_unmarked}
 use Rattle.strkw_ecma.proofs.Depths.{less_left, less_right, mirror_depth}
 
--- Here `see` says at each place of a lookahead whether what it looks for is there, and says what is so of those with fewer
--- lookarounds in one another than n.
+-- Here `see` says at each place of a lookahead whether what it looks for is there, and says what is so of those with
+-- fewer lookarounds in one another than n.
 module _ (see : ℕ → Pattern → Bool) (text : List ℕ) (n : ℕ)
     (told : (r : Pattern) → is_unmarked r ≡ true → depth r < n → IsToldBy see text r) where
   -- at the first place the marks within lookbehinds are kept

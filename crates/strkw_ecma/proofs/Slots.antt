@@ -127,7 +127,8 @@ later now n m ts ms ns each k h =
     ∙ sym (ap (λ (t : Option ℕ). told_mark now t (get_or (drop n ms) k false)) (get_or-drop n ts k None)
     ∙ ap (told_mark now (get_or ts (n + k) None)) (get_or-drop n ms k false))
 
--- marks in a list that are told where numbers tell them, and else the old ones, are those of the pattern with these told
+-- marks in a list that are told where numbers tell them, and else the old ones, are those of the pattern with these
+-- told
 pub marks_told : (now : ℕ → Bool) (p : Pattern) (ts : List (Option ℕ)) (ms ns : List Bool)
     → ((k : ℕ) → k < classes p → get_or ns k false ≡ told_mark now (get_or ts k None) (get_or ms k false))
     → mark_classes ns p ≡ told_by now ts (mark_classes ms p)

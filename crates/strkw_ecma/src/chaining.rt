@@ -212,7 +212,8 @@ fn tables_of(alloc: Global, classes: &[Class]) -> Result<Vec<ClassTable>, AllocE
 }
 
 impl Chain {
-    /// The chain of some instructions; none where they are no chain, or there is no class or more than a chain may have.
+    /// The chain of some instructions; none where they are no chain, or there is no class or more than a chain may
+    /// have.
     pub(crate) fn of(
         alloc: Global,
         classes: &[Class],

@@ -33,7 +33,8 @@ impl EcmaMatcher {
     }
 
     /// Whether each part is a row of classes between `^` and `$`, of which one may be repeated or counted and one more
-    /// may be missing. Such a part is searched by the length of a text.
+    /// may be missing. Where the counted one has a maximum, the one that may be missing stands before it. Such a part
+    /// is searched by the length of a text.
     pub fn has_chain(&self) -> bool
         ensures { result ≡ spec_has_chain self.now }
     {

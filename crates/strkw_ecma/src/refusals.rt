@@ -20,8 +20,8 @@ use std::fmt;
 pub enum PatternRefusal {
     /// `\` and one of `1` to `9`, or `\k`, stands where a term may.
     BackReference,
-    /// `\` and this character, one of ``!"#%&',-:;<=>@_`~``, stands where a term may. Without the flag `u` it stands for
-    /// the character itself (ECMA-262, 22.2.1 and B.1.2, IdentityEscape); in Unicode mode the character is written
+    /// `\` and this character, one of ``!"#%&',-:;<=>@_`~``, stands where a term may. Without the flag `u` it stands
+    /// for the character itself (ECMA-262, 22.2.1 and B.1.2, IdentityEscape); in Unicode mode the character is written
     /// alone.
     IdentityEscape(char),
     /// `\p{ }` or `\P{ }` has a property that is not known here.
@@ -81,9 +81,9 @@ fn is_short(pattern: &str) -> bool
 }
 
 /// Why `EcmaPatterns` does not take a pattern, and `None` exactly where it takes it. Where more than one reason could
-/// be told, it is the length, else what stands first in the pattern, then the size, and last whether it is a pattern.
-/// `IsReason` of `specs/Refusals.antt` says what each reason means over the text. The only error is out of memory. A
-/// pattern that is not taken is read twice, and once more where no other reason is seen.
+/// be told, it is the length, else what stands first in the pattern, then that it is no pattern, then its size, and
+/// last that a part is not taken. `IsReason` of `specs/Refusals.antt` says what each reason means over the text. The
+/// only error is out of memory. A pattern that is not taken is read twice, and once more where no other reason is seen.
 #[tactic(auto, using(crate::proofs::Taken::comes_some))]
 pub fn why_refused(alloc: Global, pattern: &str) -> Result<Option<PatternRefusal>, AllocError>
     ensures taken { IfOk result (λ why. is_none why ≡ takes_pattern (chars pattern.now)) }

@@ -44,8 +44,8 @@ const LONGEST_NAME: usize = 254;
 /// satisfied (RFC 5891, section 4.2, and RFC 5892), over the tables of Unicode 18.0. An A-label is `xn--` and the
 /// Punycode of a U-label.
 ///
-/// The only error is out of memory. A name of NR-LDH labels and full stops alone takes no memory, nor does a text of more
-/// than 1012 bytes or of more than 253 in ASCII.
+/// The only error is out of memory. A name of NR-LDH labels and full stops alone takes no memory, nor does a text of
+/// more than 1012 bytes or of more than 253 in ASCII.
 pub fn is_valid_idn_hostname(alloc: Global, hostname: &str) -> Result<bool, AllocError>
     ensures { IfOk result (λ valid. IsTrue valid ↔ IsIdnHostName (chars hostname.now)) }
 {

@@ -87,7 +87,8 @@ module _ (w : ℕ) (low : w < 128) where
   pub octets_around : (xs ys : List ℕ) → encode_utf8_all (xs ++ w ∷ ys) ≡ encode_utf8_all xs ++ w ∷ encode_utf8_all ys
   octets_around xs ys = encodes-append xs (w ∷ ys) ∙ ap (λ bs. encode_utf8_all xs ++ (bs ++ encode_utf8_all ys)) (encode_ascii w low)
 
-  -- As with w between them, by characters and by octets, where A is the same by both and holds no w: from behind a front without w
+  -- As with w between them, by characters and by octets, where A is the same by both and holds no w: from behind a
+  -- front without w
   separated_from : (A : Form) → ((x : List ℕ) → A x → Without w x) → ((x : List ℕ) → A x ↔ A (encode_utf8_all x)) → (front rest : List ℕ)
       → Without w front → SeparatedBy w A (front ++ rest) ↔ SeparatedBy w A (encode_utf8_all (front ++ rest))
   separated_from A free same front [] n =

@@ -1,5 +1,5 @@
-//! Internet addresses as RFC 5321 writes them: other than in `strkw_net`, zeros may lead in a number of an IPv4 address,
-//! and `::` stands for two groups of zeros at least.
+//! Internet addresses as RFC 5321 writes them: other than in `strkw_net`, zeros may lead in a number of an IPv4
+//! address, and `::` stands for two groups of zeros at least.
 ghost use Rattle.std.specs.Prelude.{◌↔◌, ◌⊎◌, IsTrue};
 ghost use Rattle.strkw_mail.specs.AddressLiteral.{Snum, Ipv4AddressLiteral, Ipv6Hex, Ipv6Addr};
 ghost use Rattle.strkw_mail.specs.Scan.{SomeGroups, GroupsBehind, FromGroup};

@@ -113,8 +113,8 @@ fn push_value(alloc: Global, value: &Value, out: &mut Vec<u8>) -> Result<(), All
     out.extend_from_slice(text.as_bytes())
 }
 
-/// Appends the line of a refusal: `refused L: T`, at the location L and with the text T. Out of memory is the refusal of
-/// no entry, and is passed on.
+/// Appends the line of a refusal: `refused L: T`, at the location L and with the text T. Out of memory is the refusal
+/// of no entry, and is passed on.
 pub fn push_refusal(
     alloc: Global,
     refusal: &CompileError,

@@ -149,8 +149,8 @@ impl<R: Read> RecordReader<R> {
         Ok(Some(line))
     }
 
-    /// Whether the end of the next record has to be waited for: behind the ends of blank lines, no line ends in the bytes
-    /// that are at hand.
+    /// Whether the end of the next record has to be waited for: behind the ends of blank lines, no line ends in the
+    /// bytes that are at hand.
     pub fn is_drained(&self) -> bool
         ensures { (result ≡ true) ↔ HasNoLineByte (behind_blank (at_hand self.now)) }
     {

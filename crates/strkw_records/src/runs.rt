@@ -118,8 +118,8 @@ fn run_of_block(byte: u8, bytes: &[u8]) -> usize
     first_set((same | (returns | feeds)).to_bitmask())
 }
 
-// How many bytes stand before the first that is this one or a part of a line end. They are looked at by blocks, of which
-// the last may overlap the one before.
+// How many bytes stand before the first that is this one or a part of a line end. They are looked at by blocks, of
+// which the last may overlap the one before.
 #[inline(always)]
 fn run_before(byte: u8, bytes: &[u8]) -> usize
     ensures within { result ≤ length bytes.now }

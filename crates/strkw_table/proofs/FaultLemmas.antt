@@ -122,7 +122,8 @@ no_plan_of_reading (read.NotUtf8 line number) why gives = rw gives tt
 no_plan_of_reading read.Memory why gives = rw gives tt
 no_plan_of_reading read.TooLong why gives = rw gives tt
 
--- a fault of two results, one after the other, is the first one's, or else the second one's behind what the first one did
+-- a fault of two results, one after the other, is the first one's, or else the second one's behind what the first one
+-- did
 by_faults : {S T E : Type 0} (r : Result S E) (q : Result T E) (First Second Both : E → Type 0) (Done : Type 0) → ((e : E) → First e → Both e)
     → IfErr r First → OnOk r Done → ((e : E) → Done → Second e → Both e) → IfErr q Second → IfErr (result_and r q) Both
 by_faults (Ok x) (Ok y) First Second Both Done alone first done along second = tt

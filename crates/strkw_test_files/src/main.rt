@@ -1,7 +1,7 @@
 //! Reads rows, one a line of JSON: a `plan`, and what is checked by it, the text of a CSV file (`file`), or its bytes
-//! (`bytes`), each as the character of its number, or a JSON document (`document`). A CSV file may have a `delimiter` of
-//! the caller and no `header`, and the check may be to `keep_going`. Prints each row, and under it the messages and how
-//! the check ended: what it counted, or why it could not be done. A line that begins with `#` is copied.
+//! (`bytes`), each as the character of its number, or a JSON document (`document`). A CSV file may have a `delimiter`
+//! of the caller and no `header`, and the check may be to `keep_going`. Prints each row, and under it the messages and
+//! how the check ended: what it counted, or why it could not be done. A line that begins with `#` is copied.
 #![tactic(auto)]
 
 #[cfg(test)]

@@ -6,8 +6,8 @@
 //!   each of `sides` on both sides of it: those of `accepted`, and of the third text of the place, and no others;
 //! - `numbers`, `counts`: each number below `below`, with a zero before one digit where `two_digits` is set, and so
 //!   many times `part`, at each of `places`: those from `from` to `to` (from 1 to 0: none), and no others;
-//! - `sums`: of the characters from the first number of each of `rows` up to the second, that one not included, how many
-//!   stand at each of `places`, the third number, and the sum of their numbers, the fourth;
+//! - `sums`: of the characters from the first number of each of `rows` up to the second, that one not included, how
+//!   many stand at each of `places`, the third number, and the sum of their numbers, the fourth;
 //! - `leap years`: of each year whether it has a 29th of February; `fourths` are the numbers of two digits that four
 //!   divides;
 //! - `digits`: the parser of as many digits, with each byte in the place of each digit of each of `texts`;

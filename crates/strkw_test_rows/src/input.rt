@@ -26,8 +26,8 @@ fn push_part(part: &Value, input: &mut Vec<u8>) -> Result<(), AllocError> {
     Ok(())
 }
 
-/// Appends what a run writes on an input that is given by its parts, of a long output its beginning, and then its fault.
-/// No line may be longer than the row's `longest`, where it has one.
+/// Appends what a run writes on an input that is given by its parts, of a long output its beginning, and then its
+/// fault. No line may be longer than the row's `longest`, where it has one.
 pub fn push_output(
     alloc: Global,
     row: &Value,

@@ -285,7 +285,8 @@ module _ (class operator : ℕ → Bool) (apart : (c : ℕ) → operator c ≡ t
   operator_then : (text rest : List ℕ) → OptionThen (OneOf operator) text rest → (Optional (OneOf operator) ⨾ Encoded class ⨾ B) text ↔ (Encoded class ⨾ B) rest
   operator_then text rest f = greedy (OneOf operator) (Encoded class ⨾ B) text rest (OneOf-free operator) (λ x y h g. absurd (list_no_operator x y h g)) f
 
--- an operator, or none, variables, the closing brace and the tail are a text exactly where a variable and what follows it are the rest
+-- an operator, or none, variables, the closing brace and the tail are a text exactly where a variable and what follows
+-- it are the rest
 pub after_operator : (tail text rest : List ℕ) → OptionThen (OneOf is_operator) text rest
     → (OperatorAndVariables ⨾ Literal (125 ∷ []) ⨾ IsTail tail) text ↔ (Varspec ⨾ BehindVariable tail) rest
 after_operator tail text rest f =

@@ -147,7 +147,8 @@ impl TableCheck<'_> {
         Ok(checked?.errors)
     }
 
-    // Checks a file, and puts on the page what is told of it, also where a fault ends the check before the end of the file.
+    // Checks a file, and puts on the page what is told of it, also where a fault ends the check before the end of the
+    // file.
     fn report_on(
         &self,
         rt: &HostRuntime,

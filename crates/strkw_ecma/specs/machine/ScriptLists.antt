@@ -1,5 +1,6 @@
 -- The lists of scripts in ScriptExtensions.txt, and which of them a code point has.
-use Rattle.std.specs.Prelude.{ℕ, ◌+◌, ◌<◌, ◌≤◌, List, [], ◌∷◌, ◌++◌, length, slice_index, slice_range, if◌then◌else◌}
+use Rattle.std.specs.Prelude.{ℕ, ◌+◌, ◌<◌, ◌≤◌, List, [], ◌∷◌, ◌++◌, length, if◌then◌else◌}
+use Rattle.std.specs.Prelude.{slice_index, slice_range}
 use Rattle.std.specs.List.{list_any, flat_map}
 use Rattle.std.specs.Cmp.Lexicographic.{pointwise}
 use Rattle.ucd_table.specs.Rows.{Row}
@@ -42,7 +43,8 @@ list_starts = starts_from 0 lists
 
 -- the list with a number: the scripts from where it begins to where the next one does
 abbrev pub list_numbered : ℕ → List Script
-list_numbered n = slice_range list_scripts (slice_index list_starts n) (slice_index list_starts (n + 1))
+list_numbered n =
+    slice_range list_scripts (slice_index list_starts n) (slice_index list_starts (n + 1))
 
 -- there is a list with that number
 pub record HasList (n : ℕ) : Type 0 where

@@ -399,8 +399,8 @@ fn push_errors_of_objects_under_refusal(rt: HostRuntime) -> Result<(), Fail> {
 }
 
 // Whether a run ended as it is to: what was written is a beginning of the answers, all of them where it ended well, and
-// whole ones where it was out of memory for the next. The fault is one of writing only where the sink itself was refused
-// its growth. Out of memory is an error here.
+// whole ones where it was out of memory for the next. The fault is one of writing only where the sink itself was
+// refused its growth. Out of memory is an error here.
 fn wrote_so(ended: Result<(), RunFault>, sink: &MemorySink) -> Result<bool, AllocError> {
     let bytes = sink.bytes();
     let is_as_faulted = match ended {
