@@ -205,11 +205,17 @@ FE54-FE66 FE68-FE6B FEFF FF01-FF20 FF3B-FF40 FF5B-FF65 FF70 FF9E-FF9F FFE0-FFE6 
 ADDED_SCRIPTS = """
 Jurc: 18E00-19191 191A0-191D2 / Proto_Cuneiform: 125A8-1264B / Seal: 3D000-3FC3F
 """
-# What Unicode 18 tells otherwise than Unicode 17 does of these properties and scripts: nearly all are new there.
-UNLIKE_17 = set(points_in(
-    "27C 558 58B-58C 5C8 656 8D3 B54 1ADE-1ADF 1AEC 208F 209D 20C2 A7DD 107BB 10ECF 10ED9 10EF9 11B0A 1246F 12475 "
-    "1247F 18CD6 18D1F 1B168 1CEDF 1CEF1 1D1EB 1D6A6 1DF1F 1DF24 1DF2B 1F1AE 1F6D9 1F7DA 1F7F1 1F7FF 1FA8B 1FA8D "
-    "1FACC 1FADD 1FAEB 1FAF9 2B81E"))
+# The characters that are new in Unicode 18 (DerivedAge.txt).
+NEW_IN_18 = """
+558 58B-58C 5C8-5C9 B53-B54 1ADE-1ADF 1AEC-1AF0 208F 209D-209F 20C2-20C4 2E60-2E63 A7DD A7E2 AB6C-AB6D 107BB-107BF
+10EC9-10ECF 10ED9-10EEE 10EF0-10EF9 11B0A 11DF0-11DF1 1246F 12475-1247F 12550-12686 18CD6-18CDA 18D1F-18D20 18E00-19191
+191A0-191D2 1B123-1B128 1B168 1CED2-1CED4 1CEDD-1CEDF 1CEF1-1CEFD 1D127-1D128 1D1EB-1D1FF 1D250-1D281 1D6A6 1DB00-1DB1C
+1DF1F-1DF24 1DF2B-1DF81 1DF90-1DF96 1DFCD-1DFFF 1F1AE 1F6D9 1F7DA-1F7DB 1F7F1-1F7FF 1FA8B-1FA8D 1FACC 1FADD 1FAEB
+1FAF9-1FAFA 2B81E 3D000-3FC3F
+"""
+# What it changed of characters that were there: U+027C has the new capital letter U+A7E2, and two are Diacritic.
+CHANGED_IN_18 = "27C 656 8D3"
+UNLIKE_17 = {*points_in(NEW_IN_18), *points_in(CHANGED_IN_18)}
 # What an edition behind Unicode 14 changed of characters that were there.
 CHANGED = set(points_in("19B 264 27C 295 200C-200D 226D"))
 # Characters of the script Unknown: not assigned, for private use, and noncharacters (UAX #24).
@@ -303,12 +309,15 @@ def ends_by(is_in):
     return ["".join(sorted(character for character, answer in ends if answer == side)) for side in (True, False)]
 
 
-def ends_of_ranges(ranges, samples):
-    """The ends of ranges of code points, and what stands beside these; and the samples among both."""
+def ends_of_ranges(ranges, samples, unlike=UNLIKE_17):
+    """The ends of ranges of code points, and what stands beside these; and the samples among both.
+
+    Of these the code points of which another edition tells otherwise are left out.
+    """
     points = set(points_in(ranges))
     inside = {point for point in points if point - 1 not in points or point + 1 not in points} | points & samples
     beside = {near for point in inside for near in (point - 1, point + 1)} - points | samples - points
-    left_out = {point for point in (*inside, *beside) if not 0 <= point <= 0x10FFFF or is_surrogate(point)} | UNLIKE_17
+    left_out = {point for point in (*inside, *beside) if not 0 <= point <= 0x10FFFF or is_surrogate(point)} | unlike
     return ["".join(map(chr, sorted(some - left_out))) for some in (inside, beside)]
 
 
@@ -320,10 +329,10 @@ def end_searches(ends):
     return searches(rows)
 
 
-def table_of(text, samples=frozenset()):
-    """The names of a table, each with the ends of its ranges and the samples."""
+def table_of(text, *how):
+    """The names of a table, each with the ends of its ranges, and the samples; `how` is as in `ends_of_ranges`."""
     entries = (entry.partition(":") for entry in " ".join(text.split()).split(" / "))
-    return {name: ends_of_ranges(ranges, samples) for name, _, ranges in entries}
+    return {name: ends_of_ranges(ranges, *how) for name, _, ranges in entries}
 
 
 def end_rows():
@@ -337,7 +346,7 @@ def end_rows():
                 for (value, *_), _ in values_of(CATEGORIES)}
     yield end_searches({value: ends for value, ends in by_value.items() if ends[0]})
     yield "each script at both ends of each of its runs, and the scripts of Unicode 18 at theirs"
-    yield end_searches({f"sc={name}": ends for name, ends in table_of(SCRIPT_RUNS).items()})
-    yield end_searches({f"sc={name}": ends for name, ends in table_of(ADDED_SCRIPTS).items()})
+    yield end_searches({f"sc={name}": ends for name, ends in table_of(SCRIPT_RUNS, frozenset()).items()})
+    yield end_searches({f"sc={name}": ends for name, ends in table_of(ADDED_SCRIPTS, frozenset(), frozenset()).items()})
     yield searches([[f"^[{sign}\\p{{{name}={value}}}]+$", OF_UNKNOWN, (value in UNKNOWN) == (sign == "")]
                     for value in (*UNKNOWN, "Zyyy", "Zinh") for name in ("sc", "scx") for sign in ("", "^")])
