@@ -18,9 +18,9 @@ bindings/refused.c are run so too, by bindings/test_calls.
 The programs are run in the same way, on the input that is stored with each, with each growth refused, and with each
 read and write failing, interrupted or moving one byte. Where a call was made to fail a program has to end with the
 status of a fault and the fault's text, and what it has written is a beginning of its output, of `strkw` whole answers
-after any fault but one of writing; otherwise the whole. The later a growth is refused to `strkw`, the more answers it
-has written: those before the line that it could not answer. All but `strkw` may also try an interrupted call again, or
-do without a growth that was refused, and then end as if nothing had failed.
+after any fault but one of writing; otherwise the whole. The later a call of `strkw` or of `strkw_csv` fails, the more
+they have written, and at last something: what stands before a fault is not held back. All but `strkw` may also try an
+interrupted call again, or do without a growth that was refused, and then end as if nothing had failed.
 """
 import datetime
 import os
@@ -48,15 +48,17 @@ OUT_OF_MEMORY = {b"error: %s\nthe test failed: its result gives status 1\n" % na
                  for name in (b"AllocError", b"Memory", b"AllocFailed { .. }")}
 # The programs, with the status of a fault.
 PROGRAMS = {"strkw": 1, "strkw_csv": 2, "strkw_config": 2, "neldrafi": 2}
-WRITE_FAULT, MEMORY_FAULT = "write failed", "out of memory"
+WRITE_FAULT = "write failed"
 MOVE_FAULTS = re.compile(WRITE_FAULT + r"|(.+: )?read failed(: .+)?|.+ cannot be read: .+")
 # How a call of a program is made to fail, and what the program then says; nothing where it has to end well.
 FAILINGS = {
-    "REFUSE_GROWTH": ("refused growths", re.compile(MEMORY_FAULT)),
+    "REFUSE_GROWTH": ("refused growths", re.compile("out of memory")),
     "FAIL_MOVE": ("failed reads and writes", MOVE_FAULTS),
     "INTERRUPT_MOVE": ("interrupted reads and writes", MOVE_FAULTS),
     "SHORTEN_MOVE": ("reads and writes of one byte", None),
 }
+# The programs, and the calls of theirs, of which this holds: the later one fails, the more is written.
+GROWING = [(name, failing) for name in ("strkw", "strkw_csv") for failing in ("REFUSE_GROWTH", "FAIL_MOVE")]
 
 
 def say(line):
@@ -186,7 +188,7 @@ class Stored:
         self.arguments = (folder / "args").read_text().split() if (folder / "args").exists() else []
         self.given, self.written = (folder / "stdin").read_bytes(), (folder / "stdout").read_bytes()
         self.status = int((folder / "status").read_text()) if (folder / "status").exists() else 0
-        # How much each run wrote that ended as out of memory, in their order.
+        # How much the runs wrote that ended with a fault, in their order.
         self.begun = []
 
     def is_whole(self, run):
@@ -200,7 +202,7 @@ class Stored:
         fault = said.removeprefix(f"{self.name}: ").removesuffix("\n")
         is_told = said == f"{self.name}: {fault}\n" and faults.fullmatch(fault)
         is_begun = self.written.startswith(run.written)
-        if fault == MEMORY_FAULT:
+        if is_told:
             self.begun.append(len(run.written))
         if self.name == "strkw" and fault != WRITE_FAULT:
             is_begun = is_begun and (not run.written or run.written.endswith(b"\nend\n"))
@@ -209,11 +211,11 @@ class Stored:
             is_begun = is_begun or all(line in lines for line in run.written.splitlines())
         return run.status == PROGRAMS[self.name] and is_told and is_begun
 
-    def answers_before(self):
-        """Whether the answers before the line that it could not answer were written, where memory was refused."""
-        is_so = self.begun == sorted(self.begun) and bool(self.begun) and self.begun[-1] > 0
+    def is_growing(self):
+        """Whether each run that ended with a fault wrote no less than the one before, and the last one something."""
+        is_so = self.begun == sorted(self.begun) and any(self.begun)
         if not is_so:
-            say(f"refusals: {self.name}: out of memory, it has not written the answers before")
+            say(f"refusals: {self.name}: what stands before a fault is not written: {self.begun}")
         return is_so
 
     def is_right(self, failing):
@@ -244,10 +246,11 @@ def programs(made):
             yield False
             continue
         for failing in FAILINGS:
+            stored.begun.clear()
             passed = each_in_turn(stored.name, [stored.built, *stored.arguments], made, failing,
                                   stored.is_right(failing), stored.given, stored.folder)
-            if stored.name == "strkw" and failing == "REFUSE_GROWTH":
-                passed = stored.answers_before() and passed
+            if (stored.name, failing) in GROWING:
+                passed = stored.is_growing() and passed
             yield passed
 
 
