@@ -2,6 +2,8 @@
 
 from grammar.rows import rows_of, searches
 from grammar.properties import class_rows, escape_rows, name_rows, property_rows
+from grammar.beside import (beside_rows, beside_search_rows, item_rows, item_search_rows, many_piece_rows,
+                            nested_piece_rows, third_rows, told_beside_rows)
 from grammar.classes import look_rows, member_rows, one_character_rows, ruled_rows
 from grammar.looks import (GLANCES, LOOKS_AHEAD, ahead_at_front, ahead_of_c, edge_pair_rows, edge_rows, far_rows,
                            front_limit_rows, front_rows, inner_look_rows, look_limit_rows, near_both_rows,
@@ -23,6 +25,7 @@ from grammar.notations import (class_content_rows, class_reason_rows, cluster_ro
 from grammar.reasons import (behind_call_rows, coded_name_rows, coded_place_rows, half_reason_rows, no_times_rows,
                              place_reason_rows, tableless_rows, wide_escape_rows)
 from grammar.shared import extension_rows
+from grammar.steps import nested_step_rows, step_rows
 from grammar.sizes import (category_edge_rows, common_pattern_rows, count_end_rows, deep_quantifier_rows, depth_rows,
                            edge_of_row_rows, escape_pair_rows, far_row_rows, far_text_rows, front_row_rows,
                            front_table_rows, language_word_rows, long_literal_rows, long_sides_rows, name_edge_rows,
@@ -72,4 +75,6 @@ def ecma_rows():
                    escape_pair_rows, depth_rows, row_of_classes_rows, option_in_row_rows, long_sides_rows, far_row_rows,
                    front_row_rows, unlike_alternative_rows, edge_of_row_rows, extension_rows, row_member_rows,
                    place_reason_rows, wide_escape_rows, behind_call_rows, half_reason_rows, tableless_rows,
-                   no_times_rows, coded_name_rows, coded_place_rows, end_rows)
+                   no_times_rows, coded_name_rows, coded_place_rows, end_rows, beside_rows, third_rows,
+                   told_beside_rows, nested_piece_rows, beside_search_rows, item_rows, item_search_rows,
+                   many_piece_rows, step_rows, nested_step_rows)

@@ -270,3 +270,13 @@ MANY_TIMES = 2500
 def but(left_out):
     """The characters of ASCII without these."""
     return "".join(character for character in ASCII if character not in left_out)
+
+
+def choices(number=22):
+    """What chooses one of a list, by numbers that are the same each time."""
+    def choose(offered):
+        nonlocal number
+        number = (number * 6364136223846793005 + 1442695040888963407) % (1 << 64)
+        return offered[(number >> 33) % len(offered)]
+
+    return choose
