@@ -309,7 +309,7 @@ def ends_by(is_in):
     return ["".join(sorted(character for character, answer in ends if answer == side)) for side in (True, False)]
 
 
-def ends_of_ranges(ranges, samples, unlike=UNLIKE_17):
+def ends_of_ranges(ranges, samples=frozenset(), unlike=UNLIKE_17):
     """The ends of ranges of code points, and what stands beside these; and the samples among both.
 
     Of these the code points of which another edition tells otherwise are left out.
@@ -346,7 +346,7 @@ def end_rows():
                 for (value, *_), _ in values_of(CATEGORIES)}
     yield end_searches({value: ends for value, ends in by_value.items() if ends[0]})
     yield "each script at both ends of each of its runs, and the scripts of Unicode 18 at theirs"
-    yield end_searches({f"sc={name}": ends for name, ends in table_of(SCRIPT_RUNS, frozenset()).items()})
+    yield end_searches({f"sc={name}": ends for name, ends in table_of(SCRIPT_RUNS).items()})
     yield end_searches({f"sc={name}": ends for name, ends in table_of(ADDED_SCRIPTS, frozenset(), frozenset()).items()})
     yield searches([[f"^[{sign}\\p{{{name}={value}}}]+$", OF_UNKNOWN, (value in UNKNOWN) == (sign == "")]
                     for value in (*UNKNOWN, "Zyyy", "Zinh") for name in ("sc", "scx") for sign in ("", "^")])

@@ -25,7 +25,10 @@ from grammar.notations import (class_content_rows, class_reason_rows, cluster_ro
 from grammar.reasons import (behind_call_rows, coded_name_rows, coded_place_rows, half_reason_rows, no_times_rows,
                              place_reason_rows, tableless_rows, wide_escape_rows)
 from grammar.shared import extension_rows
+from grammar.choices import choice_rows, inside_rows, wide_text_rows
+from grammar.nested import inner_body_rows, rowed_assertion_rows
 from grammar.steps import nested_step_rows, step_rows
+from grammar.sweeps import category_run_rows, extension_end_rows, gap_rows, set_sweep_rows
 from grammar.sizes import (category_edge_rows, common_pattern_rows, count_end_rows, deep_quantifier_rows, depth_rows,
                            edge_of_row_rows, escape_pair_rows, far_row_rows, far_text_rows, front_row_rows,
                            front_table_rows, language_word_rows, long_literal_rows, long_sides_rows, name_edge_rows,
@@ -77,4 +80,6 @@ def ecma_rows():
                    place_reason_rows, wide_escape_rows, behind_call_rows, half_reason_rows, tableless_rows,
                    no_times_rows, coded_name_rows, coded_place_rows, end_rows, beside_rows, third_rows,
                    told_beside_rows, nested_piece_rows, beside_search_rows, item_rows, item_search_rows,
-                   many_piece_rows, step_rows, nested_step_rows)
+                   many_piece_rows, step_rows, nested_step_rows, choice_rows, inside_rows, wide_text_rows,
+                   set_sweep_rows, inner_body_rows, rowed_assertion_rows, gap_rows, category_run_rows,
+                   extension_end_rows)
