@@ -2,7 +2,7 @@
 import itertools
 import re
 
-from grammar.rows import ASCII, DIGITS, LETTERS, WHITE_SPACE, never, searches, texts, words
+from grammar.rows import ASCII, DIGITS, LETTERS, WHITE_SPACE, long_searches, never, searches, texts, words
 from grammar.literals import NO_WHITE_SPACE
 from grammar.properties import LINE_ENDS, PATTERNS, SYNTAX, is_no_word, is_surrogate, is_word
 
@@ -96,6 +96,45 @@ def member_rows():
     yield from space_searches()
     yield "many characters are of no set: all up to U+30FF, from U+FE00 to U+1000F, and one of each 256 behind them"
     yield set_searches()
+
+
+# Members of a class by their spellings, which have no character in common, with those that they have and others beside.
+FAR_MEMBERS = {
+    "c-e": ("cde", "bf"), "\\x41-\\x43": ("ABC", "@D"), "\\d": ("0579", "/:"), "x": ("x", "wy"), "\\n": ("\n", "\v\t"),
+    "\\p{sc=Grek}": ("\u03b1\u03a9", "\u0416"), "\\u{1F600}-\\u{1F602}": ("\U0001f600\U0001f602", "\U0001f5ff"),
+    "\\b": ("\b", "\x07"), "\\-": ("-", ",."), "\\]": ("]", "[\\"), "\\ud83d\\ude80": ("\U0001f680", "\U0001f681"),
+    "\u0660-\u0669": ("\u0660\u0665\u0669", "\u065f\u066a")}
+# What may stand many times over in a class before and behind them, all of which has U+4E00 and none of the others but
+# white space.
+FAR_IN_CLASSES = {
+    "\u4e00": (31, 32, 64, 100, 127, 128, 256, 257, 511, 512, 513, 1000, 1800), "\\u4e00": (31, 100, 256, 300),
+    "\u4e00-\u4e09": (10, 32, 100, 300, 600), "\\p{sc=Hani}": (4, 33, 64, 100, 130),
+    "\\s\u4e00": (10, 33, 100, 300, 600)}
+
+
+def far_member_rows():
+    """Members of a class behind and before many others."""
+    yield ("members of a class behind and before many characters, ranges, sets and properties: each has what it has, "
+           "in a class and a negated one")
+    rows, has = [], "".join(having for having, _ in FAR_MEMBERS.values()) + "\u4e00"
+    for (many, sizes), turn in itertools.product(FAR_IN_CLASSES.items(), (1, -1)):
+        inner = "".join(list(FAR_MEMBERS)[::turn])
+        lacks = "".join(other for _, others in FAR_MEMBERS.values() for other in others
+                        if not (many.startswith("\\s") and other in WHITE_SPACE))
+        for size, behind in itertools.product(sizes, (True, False)):
+            parts = [[many, size], [inner, 1]] if behind else [[inner, 1], [many, size]]
+            rows += [[[["^[", 1], *parts, ["]+$", 1]], [[has, 1]], True],
+                     [[["[", 1], *parts, ["]", 1]], [[lacks, 1]], False],
+                     [[["^[^", 1], *parts, ["]+$", 1]], [[lacks, 1]], True],
+                     [[["[^", 1], *parts, ["]", 1]], [[has, 1]], False]]
+    for turn, (one, (having, others)) in enumerate(FAR_MEMBERS.items()):
+        many = (["\u4e00", 100], ["\u4e00", 520], ["\u4e00-\u4e09", 100], ["\u4e00", 1000])[turn % 4]
+        for parts in ([many, [one, 1]], [[one, 1], many]):
+            rows += [[[["^[", 1], *parts, ["]+$", 1]], [[having + "\u4e00", 1]], True],
+                     [[["[", 1], *parts, ["]", 1]], [[others, 1]], False],
+                     [[["^[^", 1], *parts, ["]+$", 1]], [[others, 1]], True],
+                     [[["[^", 1], *parts, ["]", 1]], [[having, 1]], False]]
+    yield long_searches(rows)
 
 
 # What a lookbehind may look for, over a, b and c, which is a pattern of Python too.

@@ -101,6 +101,87 @@ def far_reason_rows():
         yield refusals(needless(one), [*others, *(f"(?:\\{one})|b\\{other}" for other in NEEDLESSLY_ESCAPED)])
 
 
+# Pieces that make no pattern, each by a rule of the grammar or an early error (22.2.1, 22.2.1.1), with a like one that
+# is taken; and what stands far before and behind them, as parts, each so many times over.
+LIKE_WRONG = {
+    "\\00": "\\0a", "\\09": "\\0:", "\\0\\01": "\\0\\0a", "\\\\\\01": "\\\\01", "[\\07]": "[\\0a]",
+    "[a\\00]": "[a\\0]0", "(\\01)": "(\\0)1", "]": "\\]", "}": "\\}", "|{": "\\{", "(?:)(": "(?:)\\(", ")": "\\)",
+    "|*": "a|b*", "(+)": "(a+)", "a**": "a*b*", "a{1}{2}": "a{1}b{2}", "a{2,1}": "a{1,2}", "a{,1}": "a{0,1}",
+    "a{1,2": "a{1,2}", "^*": "^a*", "\\b+": "\\ba+", "(?=a)*": "(?=a)b*", "(?<=a)?": "(?<=a)b?",
+    "(?!a){2}": "(?!a)b{2}", "(?a)": "(?:a)", "(?<>a)": "(?<s>a)", "(?<1>a)": "(?<s1>a)", "(?<s-t>a)": "(?<s_t>a)",
+    "(?<s>a)(?<s>b)": "(?<s>a)(?<t>b)", "(?<s>a)|(?<\\u0073>b)": "(?<s>a)|(?<\\u0074>b)", "\\a": "\\n",
+    "\\c1": "\\ca", "\\xg4": "\\x44", "\\u00g4": "\\u0044", "\\u{}": "\\u{0}", "\\u{110000}": "\\u{10FFFF}",
+    "\\p{}": "\\p{L}", "\\pL": "\\p{L}", "[b-a]": "[a-b]", "[^\\d-a]": "[^\\d-]", "[a-\\d]": "[a\\d]",
+    "[\\a]": "[\\n]", "[\\B]": "[\\b]", "[\\u{110000}]": "[\\u{10FFFF}]", "[\\c1]": "[\\ca]",
+    "[\\p{L}-a]": "[\\p{L}-]", "[a": "[a]"}
+MANY_BEFORE = (
+    ["a", 1], ["a", 31], ["a", 99], ["a", 100], ["a", 101], ["a", 256], ["a", 1024], ["a", 1900], ["\u00e9", 1000],
+    ["\U0001f600", 500], ["\n", 200], ["(?:a)", 300], ["(a)", 300], ["a|", 800], ["[^a-z]", 250], ["[\\0a]", 200],
+    ["\\0a", 500], ["\\\\", 700], ["\\u{1F600}", 150], ["\\p{Lu}", 200], ["a*?b{2,3}", 150], ["(?=a)(?<!b)", 100])
+MANY_BEHIND = (["-", 1], ["-", 100], ["-", 1900], ["|-", 800], ["-\\0", 500], ["-(?:b)", 250], ["-[^a]", 300])
+
+
+def far_piece_rows():
+    """What makes no pattern, and what is like it, far from the beginning and from the end."""
+    yield ("each piece that makes no pattern, and one like it that is taken, behind and before so many characters, "
+           "groups, alternatives, classes and escapes")
+    for of, pieces in ((NOT_A_PATTERN, LIKE_WRONG), ("taken", LIKE_WRONG.values())):
+        long = [{"pattern": [before, [piece, 1]]} for piece in pieces for before in MANY_BEFORE]
+        long += [{"pattern": [[piece, 1], behind]} for piece in pieces for behind in MANY_BEHIND]
+        yield {"ask": "refusals", "of": of, "long": long}, len(long)
+    yield "the whole grammar: the same behind and before more than 2,000 and more than 65,536 characters"
+    around = (([["a", 3000]], []), ([["\\0a", 22_000]], [["-", 3]]), ([], [["-", 3000]]),
+              ([["a", 3]], [["-\\0", 22_000]]))
+    right, wrong = ([before + [[piece, 1]] + behind for turn, piece in enumerate(pieces)
+                     for before, behind in around[turn % 2::2]] for pieces in (LIKE_WRONG.values(), LIKE_WRONG))
+    yield {"ask": "long texts", "of": WHOLE_PATTERNS, "yes": right, "no": wrong}, len(right) + len(wrong)
+
+
+# Members that make no class, each with a like one that does, and what may stand many times over beside them.
+LIKE_WRONG_MEMBERS = {
+    "b-a": "a-b", "\\d-a": "\\d\\-a", "a-\\d": "a\\-\\d", "\\p{L}-a": "\\p{L}a", "\\a": "\\n", "\\B": "\\b",
+    "\\c1": "\\ca", "\\x4g": "\\x4a", "\\u004g": "\\u004a", "\\u{}": "\\u{0}", "\\u{110000}": "\\u{10FFFF}",
+    "\\p{}": "\\p{L}", "\\01": "\\0:", "\\1": "\\x01", "\\k": "k", "\\b-\\x07": "\\b-\\x08"}
+MANY_MEMBERS = (
+    ["\u4e00", 1], ["\u4e00", 31], ["\u4e00", 99], ["\u4e00", 100], ["\u4e00", 128], ["\u4e00", 256], ["\u4e00", 512],
+    ["\u4e00", 1900], ["\u4e00-\u4e09", 32], ["\u4e00-\u4e09", 600], ["\\d", 100], ["\\d", 500], ["\\p{Lu}", 100],
+    ["\\-", 300], ["\\u{4e00}", 200])
+ZEROS = (5, 9, 10, 11, 19, 31, 32, 33, 64, 100, 255, 256, 1000, 1900)
+
+
+def far_content_rows():
+    """What stands in a long class, many names and references, and numbers with many zeros before them."""
+    yield "members that make no class, and like ones that do, behind and before many others"
+    for of, members in ((NOT_A_PATTERN, LIKE_WRONG_MEMBERS), ("taken", LIKE_WRONG_MEMBERS.values())):
+        long = [{"pattern": [[opening, 1], *parts, ["]", 1]]} for one in members for many in MANY_MEMBERS
+                for opening, parts in (("[", ([one, 1], many)), ("[^", (many, [one, 1])))]
+        yield {"ask": "refusals", "of": of, "long": long}, len(long)
+    yield "numbers with many zeros before their digits: the zeros make none other (12.9.3.1, 22.2.2.7)"
+    forms = {"taken": ("a{{{}2}}", "a{{{}2,}}?", "a{{1,{}3}}", "\\u{{{}41}}", "[\\u{{{}41}}]", "[a-\\u{{{}62}}]",
+                       "(?<\\u{{{}61}}>x)", "\\u{{{}10FFFF}}"),
+             MORE_TIMES: ("a{{{}5001}}", "a{{{}5001,}}", "a{{1,{}5001}}"),
+             NOT_A_PATTERN: ("\\u{{{}110000}}", "[\\u{{{}110000}}]", "a{{3,{}2}}", "(?<\\u{{{}31}}>x)",
+                             "[b-\\u{{{}61}}]")}
+    for of, written in forms.items():
+        halves = [form.format(" ").split(" ") for form in written]
+        long = [{"pattern": [[before, 1], ["0", zeros], [behind, 1]]} for before, behind in halves for zeros in ZEROS]
+        yield {"ask": "refusals", "of": of, "long": long}, len(long)
+    yield "the whole grammar: hundreds of names and of references, one of which is there twice or asks for none"
+    right, wrong = [], []
+    for many in (300, 1100):
+        groups = "".join(f"(?<n{number}>)" for number in range(many))
+        calls, numbers = ([form.format(number) for number in range(1, many)] for form in ("\\k<n{}>", "\\{}:"))
+        right += [[[groups, 1], ["".join(calls), 1]], [["".join(calls), 1], [groups, 1]],
+                  [["()", many], ["".join(numbers), 1]], [["".join(numbers), 1], ["(?<m>)", 1], ["()", many - 2]]]
+        for place in (0, 1, many // 2, many - 1):
+            wrong += [[[groups, 1], [f"(?<n{place}>)", 1]], [[f"(?<n{place}>)", 1], [groups, 1]]]
+            for asked, unknown, whole in (
+                    (calls, f"\\k<n{many}>", [groups, 1]), (numbers, f"\\{many + 1}:", ["()", many])):
+                spoilt = ["".join([*asked[:place], unknown, *asked[place:]]), 1]
+                wrong += [[whole, spoilt], [spoilt, whole]]
+    yield {"ask": "long texts", "of": WHOLE_PATTERNS, "yes": right, "no": wrong}, len(right) + len(wrong)
+
+
 # Characters that are hardly seen, or make one sign with others, and pieces of several characters.
 OF_LENGTHS = (" ", "\t", "\n", "\r", "\u2028", "\u0301", "\u0903", "\u200d", "\ufe0f", "\ufeff", "\u1100", "\U0001f1e6",
               "\r\n", "\\.", "[]", "()", "\\x41", "[^a]")

@@ -4,7 +4,7 @@ from grammar.rows import rows_of, searches
 from grammar.properties import class_rows, escape_rows, name_rows, property_rows
 from grammar.beside import (beside_rows, beside_search_rows, item_rows, item_search_rows, many_piece_rows,
                             nested_piece_rows, third_rows, told_beside_rows)
-from grammar.classes import look_rows, member_rows, one_character_rows, ruled_rows
+from grammar.classes import far_member_rows, look_rows, member_rows, one_character_rows, ruled_rows
 from grammar.looks import (GLANCES, LOOKS_AHEAD, ahead_at_front, ahead_of_c, edge_pair_rows, edge_rows, far_rows,
                            front_limit_rows, front_rows, inner_look_rows, look_limit_rows, near_both_rows,
                            repeated_look_rows, repeated_term_rows, table_rows)
@@ -15,9 +15,9 @@ from grammar.grammar import character_rows, place_rows, whole_property_rows, who
 from grammar.places import (class_member_rows, edge_character_rows, large_rows, many_rows, needed_rows, never_rows,
                             placed_piece_rows, placed_reason_rows, placed_term_rows, reading_rows, reference_rows,
                             repeated_count_rows, set_pair_rows)
-from grammar.edges import (deep_rows, far_number_rows, far_reason_rows, front_within_rows, inner_edge_rows,
-                           inner_loop_rows, joined_edge_rows, length_rows, near_name_rows, off_name_rows,
-                           value_sign_rows, wrapped_rows)
+from grammar.edges import (deep_rows, far_content_rows, far_number_rows, far_piece_rows, far_reason_rows,
+                           front_within_rows, inner_edge_rows, inner_loop_rows, joined_edge_rows, length_rows,
+                           near_name_rows, off_name_rows, value_sign_rows, wrapped_rows)
 from grammar.likeness import (alike_rows, closed_kind_rows, half_pair_rows, like_hexadecimal_rows, mixed_depth_rows,
                               pair_name_rows, text_end_rows)
 from grammar.notations import (class_content_rows, class_reason_rows, cluster_rows, notation_rows, other_class_rows,
@@ -82,4 +82,4 @@ def ecma_rows():
                    told_beside_rows, nested_piece_rows, beside_search_rows, item_rows, item_search_rows,
                    many_piece_rows, step_rows, nested_step_rows, choice_rows, inside_rows, wide_text_rows,
                    set_sweep_rows, inner_body_rows, rowed_assertion_rows, gap_rows, category_run_rows,
-                   extension_end_rows)
+                   extension_end_rows, far_piece_rows, far_content_rows, far_member_rows)
