@@ -5,7 +5,7 @@ from grammar.rows import in_forms, never, searches, texts
 from grammar.properties import PATTERNS, SCRIPTS, one_letter_off, property_searches, values_of
 
 # The characters for which ScriptExtensions.txt of Unicode 17 lists scripts, behind these scripts. Unicode 18 has other
-# lists for U+0B83, U+1CF5, U+1CF6 and signs of cuneiform, which Proto-Cuneiform shares: they are left out.
+# lists for U+0B83, U+1CF5, U+1CF6 and signs of cuneiform, which Proto-Cuneiform shares: SHARED_SINCE_18 has them.
 SHARED_BY = """
 Avst Cari Copt Dupl Elba Geor Glag Gong Goth Grek Han Latn Lydi Mahj Perm Shaw: B7
 Beng Cyrl Deva Latn Lisu Thai Toto: 2BC
@@ -129,6 +129,17 @@ Arab Copt: 102E0-102FB
 Mani Ougr: 10AF2
 """
 UNLIKE_18 = {0xB83, 0x1CF5, 0x1CF6, *range(0x12000, 0x12600)}
+# Those, as ScriptExtensions.txt of Unicode 18 has them, and characters beside them that no list has, behind their own
+# scripts (Scripts.txt). The kit's tables are written from these files.
+SHARED_SINCE_18 = """
+Knda Mlym Taml Telu: B83
+Beng: 1CF5-1CF6
+Pcun Xsux: 12550-12586 1258C-1258D 1259A-125A7
+Taml: B82 B85-B8A
+Xsux: 12400-12543 12587-1258B 1258E-12599 1264C-12686
+Pcun: 125A8-1264B
+Zzzz: B84 1254F 12687
+"""
 
 
 def points_in(ranges):
@@ -138,23 +149,23 @@ def points_in(ranges):
         yield from range(int(low, 16), int(high or low, 16) + 1)
 
 
-def listed():
-    """Each character that scripts share, with these scripts."""
-    lines = SHARED_BY.replace("\n    ", " ").strip().splitlines()
+def listed(table):
+    """Each character of such a table, with its scripts."""
+    lines = table.replace("\n    ", " ").strip().splitlines()
     return {chr(point): scripts.split() for scripts, _, ranges in (line.partition(":") for line in lines)
             for point in points_in(ranges)}
 
 
-LISTED = listed()
+LISTED = listed(SHARED_BY)
 SHARING = sorted({script for scripts in LISTED.values() for script in scripts})
 
 
-def sharing_searches():
-    """Of each script all characters that it shares, and all that others share without it."""
-    rows = []
-    for script, name in itertools.product(SHARING, ("scx", "Script_Extensions")):
-        having = "".join(one for one, scripts in LISTED.items() if script in scripts)
-        lacking = "".join(one for one, scripts in LISTED.items() if script not in scripts)
+def sharing_searches(known):
+    """Of each script all of the characters that have it, and all that others have without it."""
+    rows, scripts_of_all = [], sorted({script for scripts in known.values() for script in scripts})
+    for script, name in itertools.product(scripts_of_all, ("scx", "Script_Extensions")):
+        having = "".join(one for one, scripts in known.items() if script in scripts)
+        lacking = "".join(one for one, scripts in known.items() if script not in scripts)
         rows += [[f"^\\p{{{name}={script}}}+$", having, True], [f"\\p{{{name}={script}}}", lacking, False],
                  [f"\\P{{{name}={script}}}", having, False], [f"^[\\P{{{name}={script}}}]+$", lacking, True],
                  [f"^[^\\p{{{name}={script}}}]+$", lacking, True]]
@@ -214,9 +225,13 @@ def extension_rows():
     yield texts(PATTERNS, in_forms(("\\p{{{}=Latn}}", "\\p{{{}}}"), names), never)
     yield texts(PATTERNS, ["\\p{scx}", "\\p{Script_Extensions}", "\\P{scx}", "[\\p{scx}]"], never)
     yield "each character that scripts share is of each of them (ScriptExtensions.txt), and of no other"
-    yield sharing_searches()
+    yield sharing_searches(LISTED)
     yield one_sharing_searches()
     yield "a character beside them is of its own script alone"
     yield beside_searches()
     yield "what scripts share is neither common nor inherited"
     yield common_searches()
+    yield "what scripts share since Unicode 18, and what stands beside it"
+    yield sharing_searches(listed(SHARED_SINCE_18))
+    every = "".join(listed(SHARED_SINCE_18))
+    yield searches([[f"\\p{{scx={name}}}", every, False] for name in ("Zyyy", "Zinh", "Deva", "Gran")])
