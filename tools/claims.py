@@ -1,335 +1,393 @@
 #!/usr/bin/env python3
-"""Compares what the documents claim of the repository with the repository.
+"""Compares what the documents say of the repository with the repository.
 
-    python3 tools/claims.py     no proof and no built program is needed; `.ci/run` begins with it
+    python3 tools/claims.py            compares; it needs no proof and no built program, and takes a second
+    python3 tools/claims.py --write    first writes the generated parts of the documents
 
-It asks of each document whether the files, functions and tests exist that it names, whether its links lead anywhere and
-its lines are at most 120 characters long; of each crate, whether it stands where every crate has to, with what it
-stands on, its files and its public functions; and of each number in `COUNTED` whether that is the count. It also asks
-whether each wrong definition can be put into the files, and bench/README.md and its pictures have the figures of
-bench/taken. The last line is `N passed, M failed`; a line
-before it tells each claim that does not hold.
+For each document it checks that
+
+- the paths in its code spans exist;
+- its links lead to a file, and to a heading of that file if they name one;
+- its quotations are in the files that they name: a quotation is a block of code below a line that ends in the path of
+  a file, as "`PATH`:", or below a comment `<!-- quoted from PATH -->`;
+- its generated parts are up to date: the lines between `<!-- generated: NAME -->` and `<!-- end -->`, for each NAME of
+  `GENERATED`. The README of each crate ends with the part `dependencies`.
+
+It also checks that the version and the logic of the toolchain are the same wherever they are written, and that
+bench/README.md and its pictures have the figures of bench/taken. The last line is `N passed, M failed`; a line before
+it names each claim that does not hold.
 """
+import functools
+import itertools
+import os
 import re
+import shutil
+import subprocess
 import sys
+import textwrap
 from pathlib import Path
+from typing import NamedTuple
 
 TOP = Path(__file__).resolve().parent.parent
 sys.path.insert(0, str(TOP / "bench"))
 
-from figures import is_of_readme, tables_of
+from figures import stored, tables_of
 from named import LABELS
 from pictures import PICTURES
-from wrong_definitions import Broken, changed
 
-LONGEST_LINE = 120
-LONGEST_README = 60
-# What the documents call by a name and is no file of the repository: examples, and what is built.
-NO_FILES = re.compile(r"crates/(NAME|my_crate)\b.*|proofs/MODULE/FUNCTION|application/json|crates/\w+/out(/\w+)?"
-                      r"|(bindings/out/)?lib\w+\.(a|so)|rust/strkw")
-# These documents speak of what was, or of other libraries, so that a name in them may be gone.
-OF_OTHERS = {"CHANGELOG.md", "docs/DIFFERENCES.md", "bench/README.md"}
-PATH = re.compile(r"`([\w.-]+(?:/[\w.-]+)+/?|[\w-]+\.(?:rt|antt|md|py|toml|edit|jsonl|tsv|c|h|rs|so|a))`")
-NAME = re.compile(r"`([A-Za-z]\w*_\w+|[A-Z]\w*[a-z]\w*|\w+(?:::\w+)+)`")
-NUMBERS = {word: number for number, word in enumerate(
-    "no one two three four five six seven eight nine ten eleven twelve thirteen fourteen fifteen sixteen "
-    "seventeen eighteen nineteen twenty".split())}
-# What `rt version` prints, which stands in no file.
-OUTSIDE = {"Rattle"}
-
-
-def listed():
-    """The files of the repository, without those of the folders that .gitignore names."""
-    ignored = {".git/", *(TOP / ".gitignore").read_text(encoding="utf-8").split()}
-    found = (path.relative_to(TOP) for path in TOP.glob("**/*") if path.is_file())
-    return sorted(str(path) for path in found if not any(f"{part}/" in ignored for part in path.parts))
-
-
-class Tree:
-    """The files, their texts, and what is read out of them more than once."""
-
-    def __init__(self):
-        self.files = listed()
-        self.text = {name: (TOP / name).read_text(encoding="utf-8", errors="replace") for name in self.files}
-        self.documents = [name for name in self.files if name.endswith(".md")]
-        others = (text for name, text in self.text.items() if name not in self.documents and name != "tools/claims.py")
-        self.words = set(re.findall(r"\w+", "\n".join(others))) | OUTSIDE
-        parts = [name.split("/") for name in self.files]
-        # Each file and folder, by each end of its path.
-        self.ends = {"/".join(path[first:last]) for path in parts for first in range(len(path))
-                     for last in range(first + 1, len(path) + 1)}
-        lines = [line.partition(":") for line in self.text["crates.txt"].splitlines() if not line.startswith("#")]
-        self.crates = {head.split()[0]: tail.split() for head, _, tail in lines if head}
-
-    def under(self, pattern):
-        """The files whose paths match, with their texts."""
-        return {name: text for name, text in self.text.items() if re.fullmatch(pattern, name)}
-
-    def count(self, pattern, found):
-        """How often something stands in the files whose paths match."""
-        return sum(len(re.findall(found, text, re.M)) for text in self.under(pattern).values())
-
-    def sections(self, document):
-        """The section of each crate in a document: the one whose heading names it."""
-        heads = re.split(r"^## (.*)$", self.text[document], flags=re.M)[1:]
-        pairs = zip(heads[::2], heads[1::2])
-        return {crate: body for head, body in pairs for crate in re.findall(r"`(\w+)`", head)}
-
-
-def numbers_of(tree):
-    """What is counted, by a word for it."""
-    edits, further = r"crates/\w+/must-fail/.*\.edit", r"tools/wrong_bodies/\w+\.edit"
-    definitions = tree.under(r"tools/wrong_definitions/\w+/.*")
-    return {
-        "edits": len(tree.under(edits)),
-        "bodies": tree.count(edits, r"^# \w+$"),
-        "further_bodies": tree.count(further, r"^# \w+$"),
-        "all_bodies": tree.count(f"{edits}|{further}", r"^# \w+$"),
-        "tests": tree.count(r"crates/.*\.rt", r"#\[test\]"),
-        "refusals": tree.count(r"crates/.*\.rt", r"fn \w+_under_refusal\b"),
-        "stored": len(tree.under(r"crates/\w+/stdout")),
-        "definitions": len(definitions),
-        "definition_crates": len({name.split("/")[2] for name in definitions}),
-        "programs": len(tree.under(r"crates/strkw(_csv|_config)?/src/main\.rt")),
-    }
-
-
-# Where a number is claimed: the document, the words around it, and what it is a count of. A claim that is not found is
-# wrong too: who rewords a sentence rewords it here.
-COUNTED = [
-    ("README.md", r"a library, a command and (\w+) programs", "programs"),
-    ("docs/PROVED.md", r"which holds (\d+) of them", "further_bodies"),
-    ("docs/PROVED.md", r"There are (\d+) bodies now", "all_bodies"),
-    ("docs/PROVED.md", r"tries (\d+) must-fail edits", "edits"),
-    ("docs/PROVED.md", r"must-fail edits with (\d+) wrong bodies", "bodies"),
-    ("docs/PROVED.md", r"and runs (\d+) tests", "tests"),
-    ("docs/PROVED.md", r"tests and (\w+) programs with stored output", "stored"),
-    ("docs/PROVED.md", r"runs (\d+) of the tests, those named", "refusals"),
-    ("docs/PROVED.md", r"stores (\d+) of them over", "definitions"),
-    ("docs/PROVED.md", r"of them over (\w+) crates", "definition_crates"),
+COLUMNS = 120
+# A name that ends in one of these is a file of the repository, whichever document names it.
+SOURCES = {".rt", ".antt", ".md", ".py", ".edit", ".jsonl", ".toml", ".tsv", ".c", ".h", ".rs"}
+PATH = re.compile(r"[\w.+-]+(/[\w.+-]+)*")
+BUILT = "out"
+# Paths of a caller's repository.
+EXAMPLES = {"crates/my_crate"}
+# A code span ends with as many backquotes as it begins with.
+CODE_SPAN = re.compile(r"(?<!`)(`+)(?!`)(.+?)(?<!`)\1(?!`)", re.DOTALL)
+FENCE = "```"
+QUOTED, GENERATED_MARK, END_MARK = "<!-- quoted from ", "<!-- generated: ", "<!-- end -->\n"
+# By how many columns more a quotation may be indented in its file.
+INDENTS = (0, 4, 8)
+# Where the version is written: the file, and the text before and behind it there.
+VERSIONS = [
+    ("README.md", "Version ", " "),
+    ("README.md", "neldrafi-", "-linux"),
+    ("crates/neldrafi/src/commands.rt", 'const VERSION: &str = "', '"'),
+    ("bindings/python/strkw/__init__.py", '__version__ = "', '"'),
+    ("bindings/rust/Cargo.toml", '\nversion = "', '"'),
+    ("bindings/rust/Cargo.lock", '\nversion = "', '"'),
+    ("bindings/rust/strkw/Cargo.toml", '"../strkw-sys", version = "', '"'),
+]
+# Where `tools/install` writes it in place of `@VERSION@`.
+INSTALLED = [
+    ("packaging/strkw.pc", "Version: ", "\n"),
+    *((f"packaging/man/{page}", ".Os Neldrafi ", "\n") for page in ("neldrafi.1", "strkw.1", "strkw.3")),
 ]
 
 
-# Where documents list what the gate runs: from which words on, and up to which.
-GATE = {
-    "CONTRIBUTING.md": ("`.ci/run` is the gate", "\n\n"),
-    "docs/ARCHITECTURE.md": ("## The gate", "\n## "),
-    "docs/PROVED.md": ("**The gate**", "\n**"),
-}
+class Block(NamedTuple):
+    """A block of code: the line of the document at which it begins, the line of text above it, and its own text."""
+    line: int
+    above: str
+    code: str
 
 
-def paths(tree, document):
-    """Each file that the document names, and whether there is one."""
-    for named in PATH.findall(tree.text[document]):
-        named = named.rstrip("/")
-        if not NO_FILES.fullmatch(named):
-            yield f"the file {named}", named in tree.ends
+class Document:
+    """A Markdown document: its lines and paragraphs outside blocks of code, and these blocks."""
+
+    def __init__(self, name, text):
+        self.name, self.lines, self.blocks = name, [], []
+        above, code = "", None
+        for number, line in enumerate(text.splitlines(), 1):
+            if not line.startswith(FENCE):
+                (self.lines if code is None else code).append(line)
+                above = line or above
+            elif code is None:
+                begin, introduction, code = number, above, []
+            else:
+                self.blocks.append(Block(begin, introduction, "\n".join(code)))
+                above, code = "", None
+        self.paragraphs = "\n".join(self.lines).split("\n\n")
+
+    def paths(self):
+        """The words of its code spans that have the form of a path."""
+        spans = (span for paragraph in self.paragraphs for _, span in CODE_SPAN.findall(paragraph))
+        words = (word.strip("(),;:").removesuffix("/") for span in spans for word in span.split())
+        return [word for word in words if PATH.fullmatch(word)]
+
+    def links(self):
+        """The targets of its links and pictures."""
+        pieces = (piece for it in self.paragraphs for piece in CODE_SPAN.sub("", it).split("](")[1:])
+        return [piece.partition(")")[0].partition(" ")[0] for piece in pieces]
+
+    def anchors(self):
+        """The names by which links reach its headings, as GitHub makes them."""
+        found = []
+        for line in self.lines:
+            hashes, _, heading = line.partition(" ")
+            if hashes and set(hashes) == {"#"}:
+                name = "".join(it for it in heading.lower() if it.isalnum() or it in " -_").replace(" ", "-")
+                earlier = found.count(name)
+                found.append(f"{name}-{earlier}" if earlier else name)
+        return found
+
+    def quotations(self, files):
+        """The paths of the files that it quotes, each with the block of code."""
+        for block in self.blocks:
+            if block.above.startswith(QUOTED):
+                yield block.above.removeprefix(QUOTED).removesuffix(" -->"), block
+            elif block.above.endswith(("`:", "`):")):
+                path = block.above.split("`")[-2]
+                if path in files:
+                    yield path, block
 
 
-def links(tree, document):
-    """Each link to a file, and whether the file is there."""
-    prose = re.sub(r"^```.*?^```|`[^`\n]+`", "", tree.text[document], flags=re.M | re.S)
-    for target in re.findall(r"\[[^\]\n]+\]\(([^)\s]+)\)", prose):
-        if not re.match(r"\w+:|#", target):
-            place = (TOP / document).parent / target.partition("#")[0]
-            yield f"the link to {target}", place.exists()
+def files_below(top):
+    """The paths of the files in a folder, without those that .gitignore names."""
+    ignored = {".git", *(line.strip("/") for line in (top / ".gitignore").read_text(encoding="utf-8").split())}
+    for folder, folders, files in os.walk(top):
+        folders[:] = [name for name in folders if name not in ignored]
+        yield from (os.path.relpath(os.path.join(folder, file), top) for file in files)
 
 
-def names(tree, document):
-    """Each name of code, and whether its words stand in the code."""
-    for named in NAME.findall(tree.text[document]):
-        yield f"the name {named}", all(word in tree.words for word in named.split("::"))
+def uses_of(text):
+    """The crates of crates.txt in order, each with those that it depends on."""
+    lines = [line.partition(":") for line in text.splitlines() if line and not line.startswith("#")]
+    return {head.split()[0]: tail.split() for head, _, tail in lines}
 
 
-def quotes(tree, document):
-    """The code behind the name of its file is the whole of that file."""
-    quoted = r"`(crates/[\w/]+\.rt|examples/\w+\.(?:py|c))`:\n\n```\w*\n(.*?)^```"
-    for source, code in re.findall(quoted, tree.text[document], re.M | re.S):
-        yield f"the code of {source}", code == tree.text.get(source)
+class Repository:
+    """The files of the repository. A text is read when it is first needed."""
+
+    def __init__(self, top):
+        self.top, self.files = top, sorted(files_below(top))
+        paths = [file.split("/") for file in self.files]
+        self.names = {name for path in paths for name in path}
+        # Each end of the path of each file and folder.
+        self.ends = {"/".join(path[first:last]) for path in paths for first in range(len(path))
+                     for last in range(first + 1, len(path) + 1)}
+        self.uses = uses_of(self.text("crates.txt"))
+        self.documents = {name: Document(name, self.text(name)) for name in self.files if name.endswith(".md")}
+
+    @functools.cache
+    def text(self, name):
+        """The text of a file; the empty text if there is no such file."""
+        path = self.top / name
+        return path.read_text(encoding="utf-8") if path.is_file() else ""
+
+    def texts_below(self, folder):
+        """The texts of the files in a folder."""
+        return [self.text(name) for name in self.files if name.startswith(f"{folder}/")]
+
+    def path_meant(self, word):
+        """The path of this repository that a word stands for, without what is built, or `None`. Such a path begins with
+        the name of a file or folder, or ends as a source does. A part in capitals stands for any name."""
+        parts = word.replace("../", "").split("/")
+        parts = parts[:parts.index(BUILT)] if BUILT in parts else parts
+        path = "/".join(parts)
+        if path in EXAMPLES or any(part.isupper() and part not in self.names for part in parts):
+            return None
+        is_meant = len(parts) > 1 and parts[0] in self.names or Path(path).suffix in SOURCES
+        return path if is_meant else None
+
+    def own_dependencies(self, crate):
+        """The crates of this repository that a crate depends on."""
+        return [name for name in self.uses[crate] if name in self.uses]
+
+    def readmes(self):
+        """The paths of the READMEs of the crates."""
+        return [f"crates/{crate}/README.md" for crate in self.uses]
 
 
-def columns(tree, document):
-    """Each line that is too long."""
-    for number, line in enumerate(tree.text[document].splitlines(), 1):
-        if len(line) > LONGEST_LINE:
-            yield f"line {number} has {len(line)} columns", False
-    yield "columns", True
+# ---- generated parts: each function has the text of a part in the document of this name
+
+def listed(names):
+    """Names as code spans with commas."""
+    return ", ".join(f"`{name}`" for name in names)
 
 
-def of_documents(tree):
-    """What each document claims of files, names, links and code, and the columns of its lines."""
-    for document in tree.documents:
-        asked = [paths, links, quotes, columns] + ([] if document in OF_OTHERS else [names])
-        for ask in asked:
-            for what, holds in ask(tree, document):
-                yield f"{document}: {what}", holds
+def item(text):
+    """An item of a list, on as many lines as it needs."""
+    return textwrap.fill(f"- {text}", COLUMNS, subsequent_indent="  ", break_on_hyphens=False) + "\n"
 
 
-def of_crates(tree):
-    """Where each crate has to stand, and that its section in docs/INSIDE.md names what it stands on, and its files."""
-    folders = {name.split("/")[1] for name in tree.files if name.startswith("crates/")}
-    yield "crates.txt has the folders of crates/", folders == set(tree.crates)
-    inside, proved = tree.sections("docs/INSIDE.md"), tree.sections("docs/PROVED.md")
-    for crate, below in tree.crates.items():
-        readme = tree.text.get(f"crates/{crate}/README.md", "")
-        yield f"{crate}: README.md of at most {LONGEST_README} lines", 0 < len(readme.splitlines()) <= LONGEST_README
-        yield f"{crate}: docs/ARCHITECTURE.md", re.search(rf"\b{crate}\b", tree.text["docs/ARCHITECTURE.md"])
-        yield f"{crate}: a section in docs/INSIDE.md", crate in inside
-        yield f"{crate}: a section in docs/PROVED.md", crate in proved
-        section = inside.get(crate, "")
-        stands = re.search(rf"(?:It|`{crate}`) stands on(.*?)\.\n", section, re.S)
-        found = re.findall(r"`(\w+)`", stands[1]) if stands else None
-        yield f"{crate}: docs/INSIDE.md tells what it stands on", found is not None and set(found) == set(below)
-        yield from of_files(tree, crate, section)
-        yield from of_bodies(tree, crate, proved.get(crate, ""))
+def dependencies(repository, document):
+    """What the crate of a README depends on, and which crates depend on it."""
+    crate = document.split("/")[1]
+    own = repository.own_dependencies(crate)
+    kit = [name for name in repository.uses[crate] if name not in own]
+    users = [name for name, uses in repository.uses.items() if crate in uses]
+    first = listed(own) or ("no crate of this repository" if kit else "the standard library only")
+    of_kit = f"; from Rattle's kit: {listed(kit)}" if kit else ""
+    return item(f"Depends on: {first}{of_kit}.") + item(f"Used by: {listed(users) or 'no other crate'}.")
 
 
-def of_files(tree, crate, section):
-    """Whether a section of docs/INSIDE.md names each source and each definition of its crate."""
-    for name in tree.under(rf"crates/{crate}/(src/.*\.rt|specs/.*\.antt)"):
-        stem, ending = Path(name).stem, Path(name).suffix
-        word = rf"\b{stem}\.rt\b|`{stem}`" if ending == ".rt" else rf"\b{stem}\b"
-        if stem.lower() not in {"lib", "main"}:
-            yield f"{crate}: docs/INSIDE.md names {name}", re.search(word, section)
+def crates(repository, document):
+    """The crates of this repository that each crate depends on."""
+    return "".join(item(f"`{crate}`: {listed(repository.own_dependencies(crate)) or 'none'}.")
+                   for crate in repository.uses)
 
 
-def of_bodies(tree, crate, section):
-    """Whether a section of docs/PROVED.md names each wrong body of its crate."""
-    for edit in tree.under(rf"crates/{crate}/must-fail/.*\.edit|tools/wrong_bodies/{crate}\.edit").values():
-        for body in re.findall(r"^# (\w+)$", edit, re.M):
-            yield f"{crate}: docs/PROVED.md names the wrong body {body}", re.search(rf"\b{body}\b", section)
+def names_of_bodies(texts):
+    """The lines with the names of wrong bodies."""
+    return [line for text in texts for line in text.splitlines() if line.startswith("# ")]
 
 
-def public_words(root):
-    """The names that the `pub use` of a root file give."""
-    told = ";".join(re.findall(r"pub use ([^;]+);", root))
-    return {word for word in re.findall(r"\b(\w+)\b(?!\s*::|\s+as\b)", told)}
+def evidence_of(repository, crate):
+    """The numbers of a crate's row in the part `evidence`."""
+    return (len(names_of_bodies(repository.texts_below(f"crates/{crate}/must-fail"))),
+            len(names_of_bodies([repository.text(f"tools/wrong_bodies/{crate}.edit")])),
+            len(repository.texts_below(f"tools/wrong_definitions/{crate}")),
+            sum(text.count("#[test]") for text in repository.texts_below(f"crates/{crate}/src")))
 
 
-def of_functions(tree):
-    """Whether docs/PROVED.md names each public function of a library: free ones, and those of public types."""
-    sections = tree.sections("docs/PROVED.md")
-    for crate in tree.crates:
-        root = tree.text.get(f"crates/{crate}/src/lib.rt")
-        # Of the exports for C the header is the list, and bindings/test_calls asks for rows of each.
-        if root is None or crate == "strkw_c" or crate.startswith("strkw_test_"):
-            continue
-        public = public_words(root)
-        for text in tree.under(rf"crates/{crate}/src/(?!.*test).*\.rt").values():
-            for function in functions_of(text, public):
-                holds = re.search(rf"\b{function}\b", sections.get(crate, ""))
-                yield f"{crate}: docs/PROVED.md names {function}", holds
+def evidence(repository, document):
+    """How many wrong bodies, wrong definitions and tests each crate has, and all crates."""
+    rows = {f"`{crate}`": evidence_of(repository, crate) for crate in repository.uses}
+    rows["all"] = [sum(column) for column in zip(*rows.values())]
+    lines = [f"| {name} | {' | '.join(map(str, row))} |\n" for name, row in rows.items() if any(row)]
+    head = "| Crate | Wrong bodies in the gate | Other wrong bodies | Wrong definitions | Tests |\n"
+    return head + "|---|---|---|---|---|\n" + "".join(lines)
 
 
-def functions_of(text, public):
-    """The public functions of a file: those that are named in the root, and those of types that are."""
-    owner = ""
-    for line in text.splitlines():
-        if head := re.match(r"impl(?:<.*?>)? (\w+)", line):
-            owner = head[1]
-        if function := re.match(r"( *)pub (?:const |extern \"C\" )*fn (\w+)", line):
-            if (owner if function[1] else function[2]) in public:
-                yield function[2]
+def gate(repository, document):
+    """How long the stored run of the gate took."""
+    run = dict(line.split(": ", 1) for line in repository.text("docs/gate.txt").splitlines() if ": " in line)
+    minutes, processors, used = (run.get(key) for key in ("minutes", "processors", "processor minutes"))
+    return (f"The run that `docs/gate.txt` stores took {minutes} minutes on {processors} processors, which are {used} "
+            "processor minutes.\n")
 
 
-def number_of(word):
-    """The number that a word is, or digits are."""
-    digits = word.replace(",", "")
-    return int(digits) if digits.isdigit() else NUMBERS.get(word)
+GENERATED = {"dependencies": dependencies, "crates": crates, "evidence": evidence, "gate": gate}
 
 
-def of_counts(tree):
-    """What the documents count, and whether there are so many."""
-    numbers = numbers_of(tree)
-    for document, words, counted in COUNTED:
-        found = re.search(words.replace(" ", r"\s+"), tree.text[document])
-        told = found[0] if found else words
-        holds = found and number_of(found[1]) == numbers[counted]
-        yield f"{document}: {told!r}, and there are {numbers[counted]}", holds
-    told = dict(wrong_definitions_told(tree))
-    crates = {name.split("/")[2] for name in tree.under(r"tools/wrong_definitions/\w+/.*")}
-    yield "docs/PROVED.md has a number of wrong definitions for each crate that has some", set(told) == crates
-    for crate, number in told.items():
-        counted = len(tree.under(rf"tools/wrong_definitions/{crate}/.*"))
-        yield f"docs/PROVED.md: {number} wrong definitions of {crate}, and there are {counted}", number == counted
+def part_of(repository, document, name):
+    """A generated part with its marks, or the empty text if `GENERATED` does not have its name."""
+    made = GENERATED.get(name)
+    return f"{GENERATED_MARK}{name} -->\n{made(repository, document)}{END_MARK}" if made else ""
 
 
-def wrong_definitions_told(tree):
-    """The crates and numbers in the table of wrong definitions: rows of names, and numbers in the same order."""
-    table = tree.text["docs/PROVED.md"].partition("| Crate | Wrong definitions |")[2].partition("\n\n")[0]
-    for crates, numbers in re.findall(r"^\| (`.*?) \| ([\d, ]+) \|$", table, re.M):
-        yield from zip(re.findall(r"\w+", crates), map(int, re.findall(r"\d+", numbers)))
+def parts_in(text):
+    """The generated parts of a document as it has them, by their names: with their marks, or only the first mark if
+    the other is missing."""
+    found = {}
+    for piece in text.split(f"\n{GENERATED_MARK}")[1:]:
+        name, _, rest = piece.partition(" -->\n")
+        body, end, _ = rest.partition(END_MARK)
+        found[name] = f"{GENERATED_MARK}{name} -->\n" + (body + end if end else "")
+    return found
 
 
-def of_wrong_definitions(tree):
-    """Whether each wrong definition can be put into the files as they are."""
-    for name in tree.under(r"tools/wrong_definitions/\w+/.*"):
-        try:
-            changed(TOP / name, TOP / "crates" / name.split("/")[2])
-            why = None
-        except (Broken, OSError) as broken:
-            why = broken
-        yield f"{name}: {why}", why is None
+def write(repository):
+    """Writes each generated part, and adds the dependencies to each README of a crate that lacks them."""
+    for name in repository.documents:
+        text = repository.text(name)
+        parts = parts_in(text)
+        for part, old in parts.items():
+            text = text.replace(old, part_of(repository, name, part) or old)
+        if name in repository.readmes() and "dependencies" not in parts:
+            text += "\n" + part_of(repository, name, "dependencies")
+        if text != repository.text(name):
+            (repository.top / name).write_text(text, encoding="utf-8")
+            print(f"claims: {name} is written", flush=True)
 
 
-def of_versions(tree):
-    """Each place that has the version or the logic, and whether it is the same."""
-    version = tree.text["VERSION"].strip()
-    newest = re.search(r"^## ([\d.]+)", tree.text["CHANGELOG.md"], re.M)
-    constant = re.search(r'const VERSION: &str = "(.*?)";', tree.text["crates/neldrafi/src/commands.rt"])
-    state = re.search(r"Version ([\d.]+\d)", tree.text["README.md"])
-    package = re.search(r'^__version__ = "(.*?)"', tree.text["bindings/python/strkw/__init__.py"], re.M)
-    crates = re.search(r'^version = "(.*?)"', tree.text["bindings/rust/Cargo.toml"], re.M)
-    archive = re.search(r"neldrafi-([\d.]+\d)-linux", tree.text["README.md"])
-    places = {"CHANGELOG.md": newest, "the constant of neldrafi": constant, "README.md": state,
-              "the package for Python": package, "Cargo.toml": crates, "the archive of README.md": archive}
-    for place, told in places.items():
-        yield f"{place} has the version {version}", told is not None and told[1] == version
-    logic = re.search(r"logic (\w+)$", tree.text["README.md"], re.M)
-    yield "docs/PROVED.md names the logic of README.md", logic and f"logic `{logic[1]}`" in tree.text["docs/PROVED.md"]
+# ---- claims: each is whether it holds, and what is wrong if it does not
+
+def of_paths(repository):
+    """The paths that documents name exist."""
+    for document in repository.documents.values():
+        for path in filter(None, map(repository.path_meant, document.paths())):
+            yield path in repository.ends, f"{document.name}: there is no file or folder `{path}`"
 
 
-def of_the_gate(tree):
-    """That the documents list what the gate runs, and that README.md has the minutes of the stored run."""
-    ran = set(re.findall(r'(?:asked\(|, )"((?:tools|bindings)/[\w.]+)"', tree.text["tools/refusals.py"]))
-    yield "tools/refusals.py names what the gate runs", ran
-    for document, (head, tail) in GATE.items():
-        part = tree.text[document].partition(head)[2].partition(tail)[0]
-        for script in sorted(ran):
-            yield f"{document} says that the gate runs {script}", re.search(rf"{script}\b", part)
-    stored = dict(re.findall(r"^(.+?): (.*)$", tree.text.get("docs/gate.txt", ""), re.M))
-    claim = r"took (\d+) minutes on (\w+) processors, which are (\d+) processor minutes"
-    told = re.search(claim.replace(" ", r"\s+"), tree.text["README.md"])
-    kept = [stored.get(key) for key in ["minutes", "processors", "processor minutes"]]
-    holds = told and [str(number_of(word)) for word in told.groups()] == kept
-    yield f"README.md has the minutes of docs/gate.txt: {kept}", holds
+def is_link(repository, document, target):
+    """Whether the file and the heading exist to which a link leads."""
+    path, _, anchor = target.partition("#")
+    name = os.path.normpath(os.path.join(os.path.dirname(document.name), path)) if path else document.name
+    anchors = repository.documents[name].anchors() if name in repository.documents else []
+    return (repository.top / name).exists() and (not anchor or anchor in anchors)
 
 
-def of_measurements(tree):
-    """That bench/README.md has the stored figures of each named table and says what takes it, and that the pictures are
-    those that bench/plot draws."""
-    page = tree.text["bench/README.md"]
-    tables, files = tables_of(page, LABELS), {Path(name).stem for name in tree.under(r"bench/taken/\w+\.tsv")}
-    yield "bench/README.md, bench/named.py and bench/taken have the same tables", set(tables) == files == set(LABELS)
+def of_links(repository):
+    """The links of documents within the repository lead to a file, and to a heading if they name one."""
+    for document in repository.documents.values():
+        for target in document.links():
+            if not re.match(r"\w+:", target):
+                yield is_link(repository, document, target), f"{document.name}: the link to `{target}` leads nowhere"
+
+
+def of_quotations(repository):
+    """What documents quote is in the file that they name."""
+    files = set(repository.files)
+    for document in repository.documents.values():
+        for path, block in document.quotations(files):
+            is_in_file = any(textwrap.indent(block.code, " " * by) in repository.text(path) for by in INDENTS)
+            yield is_in_file, f"{document.name}: the block at line {block.line} is not in {path}"
+
+
+def first_difference(old, new):
+    """The first line of each text that the other does not have there."""
+    lines = itertools.zip_longest(old.splitlines(), new.splitlines(), fillvalue="")
+    return next((pair for pair in lines if pair[0] != pair[1]), ("", ""))
+
+
+def of_generated_parts(repository):
+    """The generated parts of documents are up to date, and each README of a crate ends with its dependencies."""
+    for name in repository.documents:
+        for part, old in parts_in(repository.text(name)).items():
+            new = part_of(repository, name, part)
+            has, wanted = first_difference(old, new)
+            yield old == new, f"{name}: the part `{part}` has {has!r}, and `--write` gives {wanted!r}"
+    for name in repository.readmes():
+        text = repository.text(name)
+        part = parts_in(text).get("dependencies")
+        yield part is not None and text.endswith(part), f"{name}: it does not end with the part `dependencies`"
+
+
+def between(text, before, behind):
+    """Each text that these two enclose."""
+    return [piece.partition(behind)[0] for piece in text.split(before)[1:]]
+
+
+def of_versions(repository):
+    """The version is the same wherever it is written."""
+    version = repository.text("VERSION").strip()
+    places = [(*place, version) for place in VERSIONS] + [(*place, "@VERSION@") for place in INSTALLED]
+    for name, before, behind, wanted in places:
+        found = sorted(set(between(repository.text(name), before, behind)))
+        yield found == [wanted], f"{name}: the version behind `{before.strip()}` is {found}, and not {wanted}"
+    newest = between(repository.text("CHANGELOG.md"), "\n## ", ",")[:1]
+    yield newest == [version], f"CHANGELOG.md: the newest version is {newest}, and not {version}"
+
+
+def of_the_toolchain(repository, kit):
+    """The logic of the toolchain is that of README.md in each document that names it, and in the kit here."""
+    line = next(iter(between(repository.text("README.md"), "\nlogic ", "\n")), "")
+    yield line != "", "README.md: it does not name the logic of the toolchain"
+    for name in repository.documents:
+        for logic in between(repository.text(name), "logic `", "`"):
+            yield logic == line, f"{name}: the logic of the toolchain is {logic}, and README.md has {line}"
+    if kit is not None:
+        version = kit.communicate()[0].strip()
+        yield version.endswith(f"logic {line}"), f"README.md: `rt version` is {version}, and not logic {line}"
+
+
+def of_figures(repository):
+    """The tables of bench/README.md have the stored figures, and the pictures are those that bench/plot draws."""
+    tables = tables_of(repository.text("bench/README.md"), LABELS)
+    files = {Path(name).stem for name in repository.files if name.startswith("bench/taken/")}
+    is_complete = set(tables) == files == set(LABELS)
+    yield is_complete, "bench/README.md: its named tables are not those of bench/named.py and bench/taken"
     for name in sorted(files & set(tables)):
-        yield f"bench/README.md has the figures of bench/taken/{name}.tsv", is_of_readme(name, tables[name])
-        yield f"bench/README.md says what takes {name}", re.search(rf"^\|.*`{name}`.*\| .+ \|$", page, re.M)
+        numbers, figures = tables[name].numbers(), {key: figure.value for key, figure in stored(name).items()}
+        for key in sorted(numbers.keys() | figures.keys()):
+            number, figure = numbers.get(key), figures.get(key)
+            yield number == figure, (f"bench/README.md: {', '.join(key)}: the figure is {number}, "
+                                     f"and bench/taken/{name}.tsv has {figure}")
     for name, drawn in PICTURES.items():
-        yield f"{name} is what bench/plot draws", tree.text.get(name) == drawn()
+        yield repository.text(name) == drawn(), f"{name}: it is not the picture that bench/plot draws"
+
+
+def all_claims(repository):
+    """Each claim. The kit's version is queried while the others are compared."""
+    kit = subprocess.Popen(["rt", "version"], stdout=subprocess.PIPE, text=True) if shutil.which("rt") else None
+    for claims in [of_paths, of_links, of_quotations, of_generated_parts, of_versions, of_figures]:
+        yield from claims(repository)
+    yield from of_the_toolchain(repository, kit)
 
 
 def main():
-    """Tells each claim that does not hold, and counts the claims."""
-    tree = Tree()
-    counts = {True: 0, False: 0}
-    for ask in [of_documents, of_crates, of_functions, of_counts, of_wrong_definitions, of_versions, of_the_gate,
-                of_measurements]:
-        for what, holds in ask(tree):
-            counts[bool(holds)] += 1
-            if not holds:
-                print(f"claims: {what}", flush=True)
-    print(f"{counts[True]} passed, {counts[False]} failed")
-    return 1 if counts[False] else 0
+    """Writes the generated parts if the arguments say so, and compares."""
+    if "--write" in sys.argv[1:]:
+        write(Repository(TOP))
+    passed, failed = 0, 0
+    for holds, message in all_claims(Repository(TOP)):
+        passed, failed = passed + holds, failed + (not holds)
+        if not holds:
+            print(f"claims: {message}", flush=True)
+    print(f"{passed} passed, {failed} failed")
+    return 1 if failed else 0
 
 
 if __name__ == "__main__":

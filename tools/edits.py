@@ -6,7 +6,8 @@
     python3 tools/edits.py --store NAME ..    tries those of the crates, and writes what came of it into
                                               tools/wrong_bodies/tried.txt
     python3 tools/edits.py --check            asks whether that list has each wrong body as refused, over the files as
-                                              they are now: a part of the gate, which takes a second
+                                              they are now, and whether each wrong definition applies to these: a part
+                                              of the gate, which takes two seconds
 
 A wrong body is some lines below its name, `# NAME`: pairs of `old:` and `new:`, each in the `file:` above. They stand
 in `crates/NAME/must-fail/wrong_bodies.edit`, which `rt ci` tries as a whole too, or in `tools/wrong_bodies/NAME.edit`.
@@ -29,6 +30,8 @@ import sys
 import tempfile
 from collections import namedtuple
 from pathlib import Path
+
+from wrong_definitions import STORED, Broken, changed
 
 TOP = Path(__file__).resolve().parent.parent
 FURTHER = TOP / "tools/wrong_bodies"
@@ -253,6 +256,20 @@ def check():
     return passed, failed
 
 
+def check_definitions():
+    """How many of the wrong definitions apply to the files as they are, and how many do not."""
+    passed = failed = 0
+    for stored_edit in sorted(STORED.glob("*/*.edit")):
+        crate = stored_edit.parent.name
+        try:
+            changed(stored_edit, TOP / "crates" / crate)
+            passed += 1
+        except (Broken, OSError) as why:
+            print(f"edits: the wrong definition {crate}:{stored_edit.stem} does not apply: {why}", flush=True)
+            failed += 1
+    return passed, failed
+
+
 def copy(room):
     """Copies what is checked in, and what checks have left."""
     listed = subprocess.run(["git", "ls-files", "-z"], cwd=TOP, stdout=subprocess.PIPE, text=True, check=True).stdout
@@ -284,7 +301,7 @@ def main():
     """Tries the wrong bodies that the arguments name, or asks the list."""
     words = [word for word in sys.argv[1:] if not word.startswith("--")]
     if "--check" in sys.argv[1:]:
-        passed, failed = check()
+        passed, failed = map(sum, zip(check(), check_definitions()))
     elif words:
         asked, refused = try_named(words)
         if "--store" in sys.argv[1:]:

@@ -23,11 +23,12 @@ from dataclasses import dataclass
 from pathlib import Path
 
 import keyword_texts
-from claims import NUMBERS
 
 TOP = Path(__file__).resolve().parent.parent
 BUILTIN, DEFINITIONS = "crates/strkw_formats/src/builtin.rt", "crates/strkw_formats/specs/Formats.antt"
 COLUMNS, COLUMNS_OF_CODE = 120, 100
+WORDS = ("no one two three four five six seven eight nine ten eleven twelve thirteen fourteen fifteen sixteen "
+         "seventeen eighteen nineteen twenty").split()
 
 
 # ---- what is told of the formats
@@ -289,7 +290,7 @@ def exported(text, formats):
 
 def word_of(number):
     """The word for a number."""
-    return next(word for word, it in NUMBERS.items() if it == number)
+    return WORDS[number]
 
 
 def counted(text, formats):
