@@ -230,15 +230,7 @@ def evidence(repository, document):
     return head + "|---|---|---|---|---|\n" + "".join(lines)
 
 
-def gate(repository, document):
-    """How long the stored run of the gate took."""
-    run = dict(line.split(": ", 1) for line in repository.text("docs/gate.txt").splitlines() if ": " in line)
-    minutes, processors, used = (run.get(key) for key in ("minutes", "processors", "processor minutes"))
-    return (f"The run that `docs/gate.txt` stores took {minutes} minutes on {processors} processors, which are {used} "
-            "processor minutes.\n")
-
-
-GENERATED = {"dependencies": dependencies, "crates": crates, "evidence": evidence, "gate": gate}
+GENERATED = {"dependencies": dependencies, "crates": crates, "evidence": evidence}
 
 
 def part_of(repository, document, name):

@@ -18,11 +18,13 @@ is not proved only because it calls another function does not count. One that ch
 constant, has a check to itself, and some function has to be refused. What is unchanged is taken from the crate's last
 check, so wanted are the crates below as a check has left them (`out`). The last line is 'N passed, M failed'.
 
-The list has a sum of what the answers stand on: the crate, its wrong bodies and the crates below it, their lines that
-are only a comment left out.
+The list has a sum of what the answers stand on: the crate, its wrong bodies, and what the prover reads of the crates
+below it, which is their definitions, types, clauses and exported lemmas. Neither what is only a comment counts, nor the
+body of a function or of a lemma below.
 """
 import functools
 import hashlib
+import os
 import re
 import shutil
 import subprocess
@@ -37,11 +39,14 @@ TOP = Path(__file__).resolve().parent.parent
 FURTHER = TOP / "tools/wrong_bodies"
 TRIED = FURTHER / "tried.txt"
 HEADING, FILE, OLD, NEW = "# ", "file: ", "old: ", "new:"
-KEPT = ("rlib", "incremental")
 FUNCTION = re.compile(r"\s*(?:pub(?:\([a-z]+\))? )?(?:final )?(?:const )?(?:unsafe )?(?:extern \"C\" )?fn (\w+)")
 CYCLE = re.compile(r"#\[cycle\((\w+)\)\]")
 OWNER = re.compile(r"(?:impl(?:<.*?>)? (?:.* for )?&?(?:\w+::)*|(?:pub(?:\(\w+\))? )?trait )(\w+)")
 COMMENT = re.compile(r"\s*(//|--|$)")
+# In a file of lemmas: what is declared, where its meaning is open to all, and a line that says how it is proved.
+DECLARED = re.compile(r"(abbrev |record |data |mutual|module |simp )?\s*(?:pub )?(\S+) :")
+CLAUSE = re.compile(r"(?!use |pub |abbrev |record |data |mutual|module |simp |infix)\S.* =( |$)|\S+ =( |$)")
+UNFOLDING = re.compile(r"\s*unfolding (.+)")
 # What a check says: where a goal of a function is left open, which file of proofs is refused, and how it ended.
 OPEN_GOAL = re.compile(r"^(?:note: )?(src/[\w/]+\.rt):(\d+):\d+: ", re.MULTILINE)
 REFUSED_PROOF = re.compile(r"^(?:note: )?(?:\./)?proofs/([\w+/]+)/\w+\.antt:\d+:\d+: (?:error|note)", re.MULTILINE)
@@ -199,18 +204,79 @@ def crates_below():
     return {name: sorted(below(name)) for name in uses}
 
 
+def files_of(crate, part):
+    """The files of a part of a crate, in order."""
+    return sorted(it for it in (TOP / "crates" / crate / part).rglob("*") if it.suffix in (".rt", ".antt"))
+
+
 @functools.cache
 def told_by(path):
     """The lines of a file that are not only a comment."""
     return [line for line in path.read_text(encoding="utf-8").splitlines() if not COMMENT.match(line)]
 
 
-def sum_of(names, bodies):
-    """A sum of what a try of these wrong bodies stands on."""
+def indent(line):
+    """How many blanks stand before a line."""
+    return len(line) - len(line.lstrip())
+
+
+@functools.cache
+def without_bodies(path):
+    """The lines of a source but those in the bodies of functions. A constant function keeps its own."""
+    kept, margin, is_body = [], None, False
+    for line in told_by(path):
+        if is_body and indent(line) == margin and line.strip().startswith("}"):
+            margin, is_body = None, False
+        if is_body:
+            continue
+        kept.append(line)
+        if FUNCTION.match(line) and " const fn " not in f" {line}":
+            margin = indent(line)
+        if margin is not None and indent(line) == margin and line.endswith(("{", ";", "}")):
+            margin, is_body = (margin, True) if line.endswith("{") else (None, False)
+    return kept
+
+
+@functools.cache
+def names_unfolded():
+    """The names that a proof unfolds, of any crate."""
+    found = (UNFOLDING.match(line) for path in TOP.glob("crates/*/proofs/**/*.antt") for line in told_by(path))
+    return {name for it in found if it for name in it[1].split()}
+
+
+@functools.cache
+def statements(path):
+    """The lines of a file of lemmas but the proofs of those that no proof can unfold."""
+    kept, is_kept, open_names = [], True, set(names_unfolded())
+    for line in told_by(path):
+        declared = DECLARED.match(line)
+        if declared and declared[1]:
+            open_names.add(declared[2])
+        if line[:1].strip():
+            word = line.split()[0]
+            is_kept = declared or not CLAUSE.match(line) or word in open_names
+        if is_kept:
+            kept.append(line)
+    return kept
+
+
+def read_of(crate, is_tried):
+    """What a try stands on of a crate: all of one that is tried, and what can be seen of one below."""
+    readers = {"specs": told_by, "src": told_by if is_tried else without_bodies,
+               "proofs": told_by if is_tried else statements}
+    for part, reader in readers.items():
+        for path in files_of(crate, part):
+            # A file in a folder of a function has the proof of that function's clauses alone.
+            if is_tried or part != "proofs" or path.parent.name == "proofs":
+                yield str(path.relative_to(TOP)), reader(path)
+
+
+def sum_of(crate, below, bodies):
+    """A sum of what a try of these wrong bodies of a crate stands on."""
     made = hashlib.sha256(repr(bodies).encode())
-    for path in sorted(it for name in names for part in ("src", "specs", "proofs")
-                       for it in (TOP / "crates" / name / part).rglob("*") if it.suffix in (".rt", ".antt")):
-        made.update(repr((str(path.relative_to(TOP)), told_by(path))).encode())
+    for name in below:
+        for read in read_of(name, name == crate):
+            made.update(repr(read).encode())
     return made.hexdigest()[:16]
 
 
@@ -231,7 +297,7 @@ def store(answers):
     """Writes the list anew, with these answers in place of those of the same crates."""
     below = crates_below()
     found = stored()
-    found.update({name: (sum_of(below[name], wrong_bodies(name)), refused) for name, refused in answers.items()})
+    found.update({name: (sum_of(name, below[name], wrong_bodies(name)), refused) for name, refused in answers.items()})
     lines = ["# The wrong bodies that the prover refused, below their crate and a sum of what the answers stand on.",
              "# `python3 tools/edits.py --store NAME ..` tries those of a crate, and writes them."]
     for name, (made, refused) in sorted(found.items()):
@@ -246,7 +312,7 @@ def check():
     for name, below in crates_below().items():
         bodies = wrong_bodies(name)
         made, refused = found.get(name, ("", []))
-        is_of_now = made == sum_of(below, bodies)
+        is_of_now = made == sum_of(name, below, bodies)
         wrong = [body.name for body in bodies if not is_of_now or body.name not in refused]
         if wrong:
             why = "not refused" if is_of_now else "not tried over the files as they are"
@@ -270,23 +336,42 @@ def check_definitions():
     return passed, failed
 
 
-def copy(room):
-    """Copies what is checked in, and what checks have left."""
-    listed = subprocess.run(["git", "ls-files", "-z"], cwd=TOP, stdout=subprocess.PIPE, text=True, check=True).stdout
-    for name in filter(None, listed.split("\0")):
+def copy(room, crates):
+    """Copies what is checked in of crates and those below them, and what checks have left: libraries, as links where
+    the disk allows, and of the crates themselves what a check goes on from."""
+    below = crates_below()
+    names = sorted({it for crate in crates for it in below.get(crate, [])})
+    wanted = ["HANDLES", "crates.txt", *(f"crates/{name}" for name in names)]
+    listed = subprocess.run(["git", "ls-files", "-z", *wanted], cwd=TOP, stdout=subprocess.PIPE, text=True, check=True)
+    for name in filter(None, listed.stdout.split("\0")):
         if (TOP / name).is_file():
             (room / name).parent.mkdir(parents=True, exist_ok=True)
             shutil.copy2(TOP / name, room / name)
-    for kept in KEPT:
-        for built in TOP.glob(f"crates/*/out/{kept}"):
-            shutil.copytree(built, room / built.relative_to(TOP))
+    kept = [*((name, "rlib") for name in names), *((name, "incremental") for name in crates)]
+    for name, part in kept:
+        built = TOP / "crates" / name / "out" / part
+        if built.is_dir():
+            shutil.copytree(built, room / built.relative_to(TOP), copy_function=link_or_copy)
+    lines = (TOP / "crates.txt").read_text(encoding="utf-8").splitlines(keepends=True)
+    (room / "crates.txt").write_text("".join(it for it in lines if it.partition(":")[0].split()[:1] in [[n] for n in names]),
+                                     encoding="utf-8")
+
+
+def link_or_copy(source, target):
+    """A further name of a library's file, and a copy of any other file or where the disk takes no link."""
+    try:
+        if "rlib" not in Path(source).parts:
+            raise OSError
+        os.link(source, target)
+    except OSError:
+        shutil.copy2(source, target)
 
 
 def try_named(words):
     """Tries the wrong bodies that the words name; answers how many there are, and by crate which are refused."""
     asked, refused = 0, {}
     with tempfile.TemporaryDirectory() as folder:
-        copy(Path(folder))
+        copy(Path(folder), dict.fromkeys(word.partition(":")[0] for word in words))
         for word in words:
             name, _, wanted = word.partition(":")
             bodies = [body for body in wrong_bodies(name) if wanted in ("", body.name)]

@@ -7,8 +7,8 @@
 What the library has of a format is read from `crates/strkw_formats`: its name, drafts, example and the texts at the
 ends of its window from `specs/Formats.antt`, and its order and recogniser from `src/builtin.rt`. What the rows of
 programs expect is not read there: the drafts, the window and the verdict on the empty text are those of
-`tools/keyword_texts.py`, which has them from the standards. `TOLD` below has what stands nowhere else, and `FILES` at
-the end has the files, each with what writes its lines.
+`tools/rows/keywords/texts.py`, which has them from the standards. `TOLD` below has what stands nowhere else, and
+`FILES` at the end has the files, each with what writes its lines.
 
 The lines of a file are found by their shape, so that no file is marked. Most files have them in the order of the
 library or of the alphabet. Where a file has an order of its own, it keeps it, and a new format comes in behind the one
@@ -22,7 +22,7 @@ import textwrap
 from dataclasses import dataclass
 from pathlib import Path
 
-import keyword_texts
+from rows.keywords import texts as tables
 
 TOP = Path(__file__).resolve().parent.parent
 BUILTIN, DEFINITIONS = "crates/strkw_formats/src/builtin.rt", "crates/strkw_formats/specs/Formats.antt"
@@ -110,12 +110,12 @@ class Format:
     @property
     def in_tables(self):
         """What the tables of texts have of it."""
-        return row_of(self.variant, {it.variant: it for it in keyword_texts.FORMATS}, "tools/keyword_texts.py")
+        return row_of(self.variant, {it.variant: it for it in tables.FORMATS}, "tools/rows/keywords/texts.py")
 
     @property
     def drafts_in_tables(self):
         """The first and the last draft in those tables, as documents write them."""
-        return tuple(draft_of(keyword_texts.DRAFTS[it]) for it in (self.in_tables.first, self.in_tables.last))
+        return tuple(draft_of(tables.DRAFTS[it]) for it in (self.in_tables.first, self.in_tables.last))
 
 
 MAIL = Format("Email", "email", TOLD["Email"])
@@ -392,7 +392,7 @@ def texts_in_table(text, formats):
 
 def drafts_told(it):
     """The drafts of a format in words."""
-    drafts = [draft_of(draft) for draft in keyword_texts.DRAFTS.values()]
+    drafts = [draft_of(draft) for draft in tables.DRAFTS.values()]
     some = drafts[drafts.index(it.first):drafts.index(it.last) + 1]
     return f"{it.first} on" if it.last == drafts[-1] else " and ".join(some)
 
@@ -445,49 +445,6 @@ def in_json(value):
     return json.dumps(value, ensure_ascii=False, separators=(",", ":"))
 
 
-def asked_by_name(formats):
-    """A row for each name, with the example of its format, and the name and the texts that it has."""
-    examples = {it.name: [it.example] for it in formats}
-    for name, texts in examples.items():
-        yield in_json({"format": name, "texts": texts}), name, texts
-
-
-BY_NAME = r'^\{"format":"[\w-]+","texts":\[".*"\]\}\n'
-
-
-def rows_by_name(text, formats):
-    """The rows that ask each format by its name in each draft."""
-    return with_lines(text, f"(?:{BY_NAME})+", [row for row, _, _ in asked_by_name(formats)])
-
-
-def answers_by_name(text, formats):
-    """The table of the formats, and the answers to those rows."""
-    lines = [line for row, name, texts in asked_by_name(formats) for line in (row, *by_draft(name, texts))]
-    text = with_lines(text, f"(?:{BY_NAME}(?:^ .*\n)+)+", lines)
-    table = [line for it in formats for line in told_by_program(it, formats)]
-    return with_lines(text, r"(?<=^# built-in formats\n)(?:^[^#].*\n)+", table)
-
-
-def by_draft(name, texts):
-    """Which format each draft has by the name, and that the texts are of it."""
-    for draft, variant in keyword_texts.DRAFTS.items():
-        found = keyword_texts.format_in(draft, name)
-        yield f"  {variant}: {f'Some({found.variant})' if found else 'None'}"
-        yield from (f"    {text}: true" for text in texts if found)
-
-
-def told_by_program(it, formats):
-    """What the program prints of a format: its texts, its window, and how it stands to each of them."""
-    is_empty = str("" in it.in_tables.accepted).lower()
-    yield f"{it.variant} is {it.name}"
-    yield f"  {it.example}: true, no text: {is_empty}"
-    if it.window_texts:
-        yield "  {} to {}".format(*it.in_tables.window)
-    yield from (f"  {text}: true" for text in it.window_texts)
-    place = formats.index(it)
-    yield f"  {'>' * place}={'<' * (len(formats) - place - 1)}, hashed by place: true"
-
-
 # ---- the files
 
 FILES = {
@@ -495,8 +452,6 @@ FILES = {
     "crates/strkw_c/src/formats.rt": exports,
     "crates/strkw_c/src/lib.rt": exported,
     "crates/strkw_test_grammars/src/texts.rt": asked_by_rows,
-    "crates/strkw_test_rows/stdin": rows_by_name,
-    "crates/strkw_test_rows/stdout": answers_by_name,
     "bindings/strkw.h": header,
     "bindings/strkw.c": functions,
     "bindings/calls.c": rows_for_c,

@@ -23,10 +23,10 @@ import unicodedata
 from collections import Counter
 from pathlib import Path
 
-from grammar import labels as rules
 import idna
 import idna.idnadata
 from idna.intranges import intranges_contain
+from rows.grammars import labels as rules
 
 CRATE = Path(__file__).resolve().parent.parent / "crates" / "strkw_test_grammars"
 PROGRAM = CRATE / "out" / "strkw_test_grammars"
@@ -84,14 +84,15 @@ class Maker:
 
 
 def answers_of(program, kind, texts):
-    """Which of the texts the program takes for this format: each has a row that expects so, and tells a wrong one."""
-    rows = "".join(json.dumps({"ask": "texts", "of": kind, "yes": [text]}) + "\n" for text in texts)
-    run = subprocess.run(program, cwd=CRATE, input=rows, stdout=subprocess.PIPE, stderr=subprocess.PIPE, text=True,
-                         errors="replace")
-    told = re.findall(rf"^texts of {kind}: (1 as expected|1 WRONG of 1)$", run.stdout, re.MULTILINE)
-    if len(told) != len(texts):
-        raise SystemExit(f"{len(told)} answers to {len(texts)} texts: {(run.stdout + run.stderr)[-500:]}")
-    return [answer == "1 as expected" for answer in told]
+    """Which of the texts the program takes for this format: each has a row that expects so, and a row that fails is
+    written out."""
+    rows = [json.dumps({"ask": "texts", "of": kind, "yes": [text]}, ensure_ascii=False) for text in texts]
+    run = subprocess.run(program, cwd=CRATE, input="".join(f"{row}\n" for row in rows), stdout=subprocess.PIPE,
+                         stderr=subprocess.PIPE, text=True, errors="replace")
+    if f"{len(rows)} rows, {len(rows)} answers\n" not in run.stderr:
+        raise SystemExit(f"{len(rows)} texts were asked: {(run.stdout + run.stderr)[-500:]}")
+    failing = set(run.stdout.split("\n"))
+    return [row not in failing for row in rows]
 
 
 def here(kind, texts):

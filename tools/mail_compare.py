@@ -22,9 +22,9 @@ import unicodedata
 from collections import Counter
 
 import email_validator
-from grammar import labels as rules
 import idna
 import idna_compare
+from rows.grammars import labels as rules
 
 COUNT, SEED = 4000, 1
 MOST_TOLD = 4

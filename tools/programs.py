@@ -4,9 +4,9 @@
     python3 tools/programs.py             the rows of all files in tools/programs, on what the last `rt ci` left built
     python3 tools/programs.py NAME ..     those of tools/programs/NAME.toml
 
-A file names its programs, as `strkw` (crates/strkw/out/strkw) or `examples/parallel`, and has a table `[[row]]` for
-each run. A run is in an empty folder of its own and has to end in 20 seconds. A row has these keys; all but `name` may
-be left out:
+A file names its programs, as `strkw` (crates/strkw/out/strkw), `neldrafi csv` or `examples/parallel`, and has a table
+`[[row]]` for each run. A run is in an empty folder of its own and has to end in 20 seconds. A row has these keys; all
+but `name` may be left out:
 
     name          what is tried
     arguments     the words behind the program's name
@@ -96,9 +96,11 @@ def rows_of(text):
 
 
 def words_of(program):
-    """How a program is started: a script of Python by the Python that runs this."""
+    """How a program is started, behind whose name may stand a subcommand: a script of Python by the Python that runs
+    this."""
     if "/" not in program:
-        return [TOP / "crates" / program / "out" / program]
+        name, *subcommand = program.split()
+        return [TOP / "crates" / name / "out" / name, *subcommand]
     path = TOP / program
     is_python = path.suffix == ".py" or b"python" in path.read_bytes().partition(b"\n")[0]
     return [sys.executable, path] if is_python else [path]
@@ -208,7 +210,8 @@ def left_in(folder):
 
 def wrongs(row, words):
     """What differs from the row."""
-    errors_wanted = bytes_of(row.errors).replace(b"{program}", words[-1].name.encode())
+    program = [word for word in words if isinstance(word, Path)][-1]
+    errors_wanted = bytes_of(row.errors).replace(b"{program}", program.name.encode())
     with tempfile.TemporaryDirectory() as name:
         folder = Path(name)
         lay_out(row, folder)
@@ -234,7 +237,7 @@ def is_right(program, row, words):
 def tried(program, rows, pool):
     """Whether each row was right; a program that is not there is one wrong row."""
     words = words_of(program)
-    if not (os.access(words[0], os.X_OK) and words[-1].is_file()):
+    if not (os.access(words[0], os.X_OK) and all(Path(word).is_file() for word in words if "/" in str(word))):
         print(f"programs: {program} is not built: run `rt ci` first", flush=True)
         return [False]
     answers = list(pool.map(lambda row: is_right(program, row, words), rows))

@@ -1,13 +1,7 @@
 #!/usr/bin/env python3
 """Runs built tests and programs with one call failing at a time: each growth, and each read and write.
 
-    python3 tools/refusals.py           on the binaries that the last `rt ci` left in crates/*/out
-    python3 tools/refusals.py --gate    first tools/claims.py, `tools/edits.py --check` and `rt ci` itself, and last
-                                        `tools/formats.py --check`, `tools/grammar_rows.py --check`,
-                                        `tools/keyword_rows.py --check`, tools/programs.py,
-                                        `tools/sizes.py --bounded`, bindings/test, bindings/test_calls and
-                                        tools/test_packages.py; the last line counts all
-    python3 tools/refusals.py --gate --store    the same; its minutes and counts go to docs/gate.txt
+    python3 tools/refusals.py    on what the last `rt ci` left in crates/*/out; the last line is `N passed, M failed`
 
 A *row* is a test whose name ends in `_under_refusal`. With ample memory it passes only where its calls answer what
 they are to answer. Here it is run alone, once with nothing refused, when it has to pass, and then with growth 1, 2, ..
@@ -22,23 +16,18 @@ after any fault but one of writing; otherwise the whole. The later a call of `st
 they have written, and at last something: what stands before a fault is not held back. All but `strkw` may also try an
 interrupted call again, or do without a growth that was refused, and then end as if nothing had failed.
 """
-import datetime
 import os
 import re
-import resource
 import subprocess
 import sys
 import tempfile
-import time
 from pathlib import Path
 
 TOP = Path(__file__).resolve().parent.parent
-COUNTS = re.compile(r"(\d+) passed, (\d+) failed")
 TELL_AT = 9
 MOST_CALLS = 20000
 MOST_WRONG = 20
 SECONDS_FOR_A_RUN = 120
-MEMORY_FOR_A_CHECK = 5 << 20  # kilobytes; the largest, that of neldrafi, takes so much
 ROW = re.compile(r"fn (\w+_under_refusal)\b")
 # How a row ends that answers an error, and what it says where that is out of memory: the name `AllocError`, or that of
 # a variant `Memory`.
@@ -64,29 +53,6 @@ GROWING = [(name, failing) for name in ("strkw", "strkw_csv") for failing in ("R
 def say(line):
     """Prints a line at once."""
     print(line, flush=True)
-
-
-def counted(words, called):
-    """Runs what ends with a line of counts, passes the lines before it on, and answers how many passed and failed."""
-    last = ""
-    with subprocess.Popen(words, cwd=TOP, stdin=subprocess.DEVNULL, stdout=subprocess.PIPE, text=True,
-                          errors="replace") as run:
-        for line in run.stdout:
-            if line.strip():
-                if last:
-                    say(last)
-                last = line.rstrip()
-    counts = COUNTS.fullmatch(last.strip())
-    if counts is None:
-        say(last)
-        say(f"refusals: {called} ended with status {run.returncode} and no counts")
-        return 0, 1
-    passed, failed = map(int, counts.groups())
-    say(f"refusals: {called}: {passed} passed, {failed} failed")
-    if failed == 0 and (run.returncode != 0 or passed == 0):
-        say(f"refusals: {called} ended with status {run.returncode}")
-        failed = 1
-    return passed, failed
 
 
 def preload(folder):
@@ -254,23 +220,6 @@ def programs(made):
             yield passed
 
 
-def store(counts, began):
-    """Writes what a run of the gate took and counted."""
-    used = resource.getrusage(resource.RUSAGE_CHILDREN)
-    commit = subprocess.run(["git", "rev-parse", "--short", "HEAD"], cwd=TOP, stdout=subprocess.PIPE, text=True)
-    told = {
-        "date": datetime.date.today(),
-        "commit": commit.stdout.strip(),
-        "processors": os.cpu_count(),
-        "minutes": round((time.monotonic() - began) / 60),
-        "processor minutes": round((used.ru_utime + used.ru_stime) / 60),
-        **{called: f"{passed} passed, {failed} failed" for called, (passed, failed) in counts.items()},
-    }
-    head = "A run of the gate. `python3 tools/refusals.py --gate --store` writes this file at the end of a run.\n"
-    lines = "".join(f"{key}: {value}\n" for key, value in told.items())
-    (TOP / "docs/gate.txt").write_text(head + lines, encoding="utf-8")
-
-
 def refusals():
     """How many rows and runs of programs passed and failed."""
     with tempfile.TemporaryDirectory() as folder:
@@ -289,46 +238,9 @@ def refusals():
     return (rows + runs).count(True), (rows + runs).count(False)
 
 
-def checks_at_once():
-    """How many checks `rt ci` is to run at a time: one for each processor, as far as the memory goes.
-
-    By itself it counts on several times the memory that a check takes, and lets the longest ones wait for the others.
-    """
-    available = int(re.search(r"MemAvailable: *(\d+)", Path("/proc/meminfo").read_text())[1])
-    return max(1, min(len(os.sched_getaffinity(0)), available // MEMORY_FOR_A_CHECK))
-
-
-def gate():
-    """The steps of the gate by name, each with its counts. The library for C is built over what this `rt ci` proved."""
-    def asked(*words):
-        """A step that is a script of its own."""
-        return " ".join(words), counted([sys.executable, *words], words[0])
-
-    with tempfile.NamedTemporaryFile() as begun:
-        yield asked("tools/claims.py")
-        yield asked("tools/edits.py", "--check")
-        os.environ.setdefault("RT_JOBS", str(checks_at_once()))
-        yield "rt ci", counted(["rt", "ci"], "`rt ci`")
-        yield "tools/refusals.py", refusals()
-        yield asked("tools/formats.py", "--check")
-        yield asked("tools/grammar_rows.py", "--check")
-        yield asked("tools/keyword_rows.py", "--check")
-        yield asked("tools/programs.py")
-        yield asked("tools/sizes.py", "--bounded")
-        build_and_test = 'bindings/build --since "$1" && bindings/test'
-        yield "bindings/test", counted(["sh", "-c", build_and_test, "sh", begun.name], "bindings/test")
-        yield asked("bindings/test_calls")
-        yield asked("tools/test_packages.py")
-
-
 def main():
-    """Runs the refusals, or the whole gate."""
-    began = time.monotonic()
-    is_gate = "--gate" in sys.argv[1:]
-    counts = dict(gate() if is_gate else [("tools/refusals.py", refusals())])
-    passed, failed = map(sum, zip(*counts.values()))
-    if is_gate and "--store" in sys.argv[1:]:
-        store(counts, began)
+    """Runs the refusals."""
+    passed, failed = refusals()
     say(f"{passed} passed, {failed} failed")
     return 1 if failed else 0
 

@@ -1,6 +1,6 @@
 //! Reads rows, one a line of JSON, each with the answers that are expected of calls of the crates of grammars,
-//! encodings, patterns and reports. Prints under each how many answers are as expected, and which are not; a line that
-//! begins with `#` is copied. The last line counts all. `row.rt` tells what stands in a row.
+//! encodings, patterns and reports. Prints the rows that are answered otherwise, and how many they are; a line that
+//! begins with `#` and an empty one are passed over. `row.rt` tells what stands in a row.
 #![tactic(auto)]
 
 mod coding;
@@ -17,24 +17,27 @@ mod time;
 
 use serde_json::Value;
 use std::alloc::{AllocError, Global};
-use std::io;
+use std::io::{self, BufRead, BufReader};
 use tally::{Tally, Totals};
+
+// The longest row that is printed whole.
+const LONGEST: usize = 2000;
 
 fn main(rt: HostRuntime) -> io::Result<()> {
     let mut totals = Totals::default();
-    for line in rt.lines(rt.alloc()) {
-        print_line(rt, &line?, &mut totals)?;
+    for line in BufReader::new(rt.alloc(), rt.reader())?.lines(rt.alloc()) {
+        let line = line?;
+        if !line.is_empty() && !line.starts_with('#') {
+            print!(rt; "{}", answer(rt.alloc(), &line, &mut totals)?)?;
+        }
     }
-    let Totals { rows, asked, wrong } = totals;
-    print!(rt; "{rows} rows, {asked} answers, {wrong} of them wrong\n")
-}
-
-// Copies a line, or prints what is told of the row that it is.
-fn print_line(rt: HostRuntime, line: &str, totals: &mut Totals) -> io::Result<()> {
-    if line.is_empty() || line.starts_with('#') {
-        return print!(rt; "{line}\n");
-    }
-    print!(rt; "{}", answer(rt.alloc(), line, totals)?)
+    let Totals {
+        rows,
+        asked,
+        failed,
+    } = totals;
+    println!(rt; "failed: {failed}")?;
+    eprintln!(rt; "{rows} rows, {asked} answers")
 }
 
 // What is told of a row, whose answers are added to the totals.
@@ -42,17 +45,26 @@ fn answer(alloc: Global, line: &str, totals: &mut Totals) -> Result<String, Allo
     let mut tally = Tally::new(alloc);
     let read = Value::from_str(alloc, line);
     let told = match &read {
-        Ok(row) => answer_row(alloc, row, &mut tally),
-        Err(_) => tally.lines(alloc, "no JSON", line),
+        Ok(row) => answer_row(alloc, line, row, &mut tally),
+        Err(_) => tally.lines(alloc, line),
     };
     drop(read);
     totals.add(&tally);
     told
 }
 
-fn answer_row(alloc: Global, row: &Value, tally: &mut Tally) -> Result<String, AllocError> {
+fn answer_row(
+    alloc: Global,
+    line: &str,
+    row: &Value,
+    tally: &mut Tally,
+) -> Result<String, AllocError> {
     ask(alloc, row, tally)?;
-    tally.lines(alloc, row::text(row, "ask"), row::text(row, "of"))
+    if line.len() <= LONGEST {
+        return tally.lines(alloc, line);
+    }
+    let name = format!(in alloc; "{} of {}", row::text(row, "ask"), row::text(row, "of"))?;
+    tally.lines(alloc, &name)
 }
 
 // Asks what a row asks of grammars, or of the other crates.

@@ -10,7 +10,7 @@ const MOST: u64 = 5;
 pub struct Totals {
     pub rows: u64,
     pub asked: u64,
-    pub wrong: u64,
+    pub failed: u64,
 }
 
 impl Totals {
@@ -18,7 +18,7 @@ impl Totals {
     pub fn add(&mut self, row: &Tally) {
         self.rows = self.rows.wrapping_add(1);
         self.asked = self.asked.wrapping_add(row.asked);
-        self.wrong = self.wrong.wrapping_add(row.wrong);
+        self.failed = self.failed.wrapping_add(u64::from(row.wrong > 0));
     }
 }
 
@@ -53,16 +53,14 @@ impl Tally {
         write!(self.shown, "  WRONG: {text:?}: {answer}\n")
     }
 
-    /// The lines of a row. One that asked nothing is wrong.
-    pub fn lines(&mut self, alloc: Global, what: &str, of: &str) -> Result<String, AllocError> {
+    /// What is printed of a row: nothing where each answer is as expected. One that asked nothing is wrong.
+    pub fn lines(&mut self, alloc: Global, name: &str) -> Result<String, AllocError> {
         if self.asked == 0 {
-            self.count(false, of, "nothing is asked")?;
+            self.count(false, "", "nothing is asked")?;
         }
-        let (asked, wrong, shown) = (self.asked, self.wrong, &self.shown);
-        let space = if of.is_empty() { "" } else { " of " };
-        if wrong == 0 {
-            return format!(in alloc; "{what}{space}{of}: {asked} as expected\n");
+        if self.wrong == 0 {
+            return Ok(String::new(alloc));
         }
-        format!(in alloc; "{what}{space}{of}: {wrong} WRONG of {asked}\n{shown}")
+        format!(in alloc; "{name}\n{}", self.shown)
     }
 }

@@ -8,7 +8,7 @@ use std::alloc::{AllocError, Global};
 use strkw_keywords::{Checks, Context};
 use strkw_object::{StringKeywords, compile_owned, compile_strings};
 use strkw_report::CompileError;
-use strkw_test_doubles::{Name, ScriptedBuilder, ScriptedEngine, compile_entry};
+use strkw_test_calls::{Name, ScriptedBuilder, ScriptedEngine, compile_entry};
 
 /// Appends what is compiled of the object, or of the one entry that the row names, and its answers; and where a pattern
 /// was shown to the builder, how often.

@@ -10,7 +10,7 @@ use std::alloc::{AllocError, Global};
 use std::cell::Cell;
 use strkw_keywords::{Checks, Context, NamedCodec, NamedFormat, NamedMediaType};
 use strkw_report::Draft;
-use strkw_test_doubles::{Row, ScriptedBuilder, check_named, codec_named, outcome_named};
+use strkw_test_calls::{Row, ScriptedBuilder, check_named, codec_named, outcome_named};
 
 /// Appends what a row's schema object says of each of its instances.
 pub fn push_answers(alloc: Global, row: &Value, out: &mut String) -> Result<(), AllocError> {

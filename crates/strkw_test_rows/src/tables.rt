@@ -1,7 +1,7 @@
-//! The tables of the keywords, of what is set by default, and of the built-in formats.
+//! Tables of the keywords, of what is set by default, of drafts, built-in formats and faults; and formats by name.
 
 use serde_json::Value;
-use std::alloc::{AllocError, Global};
+use std::alloc::AllocError;
 use std::cmp::Ordering;
 use std::hash::{DefaultHasher, Hash, Hasher};
 use strkw_cli::{BoundedRunFault, RunFault};
@@ -33,20 +33,26 @@ const FAULTS: [RunFault; 4] = [
     RunFault::TooLong,
 ];
 
-/// The keywords in order with their places, what is set by default, the drafts, the built-in formats in order, and the
-/// texts of the faults of a run.
-pub fn lines(alloc: Global) -> Result<String, AllocError> {
-    let mut out = String::from_str(alloc, "# keywords\n")?;
+/// Appends the table of a name.
+pub fn push_table(name: &str, out: &mut String) -> Result<(), AllocError> {
+    match name {
+        "keywords" => push_keywords(out),
+        "default options" => push_default(out),
+        "drafts" => push_drafts(out),
+        "built-in formats" => push_formats(out),
+        "faults of a run" => push_faults(out),
+        _ => out.push_str("no table"),
+    }
+}
+
+// The keywords in order, with their places.
+fn push_keywords(out: &mut String) -> Result<(), AllocError> {
     for keyword in KEYWORDS {
         let (place, name) = (keyword.place(), keyword.as_str());
         let left_out = Options::default().is_overridden(keyword);
         write!(out, "{place} {name}, left out by default: {left_out}\n")?;
     }
-    push_default(&mut out)?;
-    push_drafts(&mut out)?;
-    push_formats(&mut out)?;
-    push_faults(&mut out)?;
-    Ok(out)
+    Ok(())
 }
 
 fn push_default(out: &mut String) -> Result<(), AllocError> {
@@ -56,7 +62,7 @@ fn push_default(out: &mut String) -> Result<(), AllocError> {
     let codecs = options.codecs;
     write!(
         out,
-        "# default options\n{validate:?}, {ignore}, {by_dialect}, {json}, {codecs:?}\n"
+        "{validate:?}, {ignore}, {by_dialect}, {json}, {codecs:?}\n"
     )
 }
 
@@ -67,7 +73,6 @@ fn hash_of<T: Hash>(value: &T) -> u64 {
 }
 
 fn push_drafts(out: &mut String) -> Result<(), AllocError> {
-    out.push_str("# drafts\n")?;
     let mut place = 0u64;
     for draft in DRAFTS {
         let by_place = hash_of(&draft) == hash_of(&place);
@@ -78,7 +83,6 @@ fn push_drafts(out: &mut String) -> Result<(), AllocError> {
 }
 
 fn push_formats(out: &mut String) -> Result<(), AllocError> {
-    out.push_str("# built-in formats\n")?;
     let mut place = 0u64;
     for format in BuiltinFormat::VARIANTS {
         push_examples(*format, out)?;
@@ -140,7 +144,6 @@ fn push_order(place: u64, format: BuiltinFormat, out: &mut String) -> Result<(),
 }
 
 fn push_faults(out: &mut String) -> Result<(), AllocError> {
-    out.push_str("# faults of a run\n")?;
     for fault in FAULTS {
         let (text, bounded) = (fault.text(), BoundedRunFault::Run(fault));
         write!(out, "{text}, displayed: {fault}, {bounded}\n")?;

@@ -1,5 +1,6 @@
 //! What the calls are lent, and whether they left it as it was.
 
+use crate::{Row, ScriptedBuilder, check_named};
 use serde_json::{Map, Value};
 use std::alloc::{AllocError, Global};
 use std::cell::Cell;
@@ -8,7 +9,6 @@ use strkw_pattern::Outcome;
 use strkw_report::{
     CompileError, CompileErrorKind, Draft, ErrorKind, Location, Site, ValidationError, error_at,
 };
-use strkw_test_doubles::{Row, ScriptedBuilder, check_named};
 
 // The one pattern that the builder takes.
 const PATTERNS: [Row<'static>; 1] = [Row {

@@ -6,12 +6,12 @@ use super::context::{
     Answer, Asked, Call, Given, Lent, are_lent, are_lines, collects, gives_the_first, is_answered,
     is_at, lent_errors, only_if, root_site,
 };
+use crate::compile_entry;
 use serde_json::{Map, Value};
 use std::alloc::{AllocError, Global};
 use std::test::Fail;
 use strkw_keywords::{Checks, Keyword, Uses, Validate, Values, compile_among};
 use strkw_report::{CompileError, Draft, Site};
-use strkw_test_doubles::compile_entry;
 
 // What a call makes of an entry; nothing where the entry adds nothing. The functions below take any validator, and take
 // it over: where a function lets go of a `Validator` by itself, its many variants cost a proof of a minute and more.

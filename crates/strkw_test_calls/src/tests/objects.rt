@@ -7,6 +7,7 @@ use super::context::{
     is_at, lent_errors, only_if, root_site,
 };
 use super::devices::{answers, ends, script};
+use crate::ScriptedEngine;
 use serde_json::{Map, Value};
 use std::alloc::{AllocError, Global};
 use std::test::Fail;
@@ -15,7 +16,6 @@ use strkw_keywords::Checks;
 use strkw_object::{Note, ObjectEvaluation, StringKeywords, compile_strings};
 use strkw_print::push_errors;
 use strkw_report::{CompileError, Draft, Site, TextNode};
-use strkw_test_doubles::ScriptedEngine;
 
 type Keywords = StringKeywords<ScriptedEngine<'static>>;
 

@@ -6,6 +6,7 @@ use super::context::{
     Answer, Asked, Given, Lent, is_answered, is_at, is_json, json, only_if, root_site,
 };
 use super::objects::are_notes;
+use crate::ScriptedEngine;
 use serde_json::{Map, Value};
 use std::alloc::{AllocError, Global};
 use std::test::Fail;
@@ -13,7 +14,6 @@ use strkw_keywords::{Checks, Context, Keyword, Options, Uses, take_content_schem
 use strkw_object::{Note, OwnedValues, StringKeywords, compile_owned, compile_values};
 use strkw_pattern::NoPatterns;
 use strkw_report::{CompileError, Draft};
-use strkw_test_doubles::ScriptedEngine;
 
 type Keywords = StringKeywords<ScriptedEngine<'static>>;
 
