@@ -217,7 +217,7 @@ def evidence_of(repository, crate):
     """The numbers of a crate's row in the part `evidence`."""
     return (len(names_of_bodies(repository.texts_below(f"crates/{crate}/must-fail"))),
             len(names_of_bodies([repository.text(f"tools/wrong_bodies/{crate}.edit")])),
-            len(repository.texts_below(f"tools/wrong_definitions/{crate}")),
+            repository.text(f"tools/mutants/{crate}.mutants").count("\n## "),
             sum(text.count("#[test]") for text in repository.texts_below(f"crates/{crate}/src")))
 
 

@@ -6,8 +6,8 @@
     python3 tools/edits.py --store NAME ..    tries those of the crates, and writes what came of it into
                                               tools/wrong_bodies/tried.txt
     python3 tools/edits.py --check            asks whether that list has each wrong body as refused, over the files as
-                                              they are now, and whether each wrong definition applies to these: a part
-                                              of the gate, which takes two seconds
+                                              they are now, and whether each change of tools/mutants applies to these: a
+                                              part of the gate, which takes two seconds
 
 A wrong body is some lines below its name, `# NAME`: pairs of `old:` and `new:`, each in the `file:` above. They stand
 in `crates/NAME/must-fail/wrong_bodies.edit`, which `rt ci` tries as a whole too, or in `tools/wrong_bodies/NAME.edit`.
@@ -33,7 +33,7 @@ import tempfile
 from collections import namedtuple
 from pathlib import Path
 
-from wrong_definitions import STORED, Broken, changed
+from mutants import stored as changes
 
 TOP = Path(__file__).resolve().parent.parent
 FURTHER = TOP / "tools/wrong_bodies"
@@ -322,16 +322,15 @@ def check():
     return passed, failed
 
 
-def check_definitions():
-    """How many of the wrong definitions apply to the files as they are, and how many do not."""
+def check_changes():
+    """How many of the changes of tools/mutants apply to the files as they are, and how many do not."""
     passed = failed = 0
-    for stored_edit in sorted(STORED.glob("*/*.edit")):
-        crate = stored_edit.parent.name
+    for mutant in (mutant for crate in changes.crates() for mutant in changes.read(crate)):
         try:
-            changed(stored_edit, TOP / "crates" / crate)
+            mutant.files(TOP / "crates")
             passed += 1
-        except (Broken, OSError) as why:
-            print(f"edits: the wrong definition {crate}:{stored_edit.stem} does not apply: {why}", flush=True)
+        except (changes.Broken, OSError) as why:
+            print(f"edits: the change {mutant.name} does not apply: {why}", flush=True)
             failed += 1
     return passed, failed
 
@@ -386,7 +385,7 @@ def main():
     """Tries the wrong bodies that the arguments name, or asks the list."""
     words = [word for word in sys.argv[1:] if not word.startswith("--")]
     if "--check" in sys.argv[1:]:
-        passed, failed = map(sum, zip(check(), check_definitions()))
+        passed, failed = map(sum, zip(check(), check_changes()))
     elif words:
         asked, refused = try_named(words)
         if "--store" in sys.argv[1:]:

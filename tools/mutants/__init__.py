@@ -1,0 +1,1 @@
+"""Wrong definitions behind switches: changes of code that rows have to notice."""
