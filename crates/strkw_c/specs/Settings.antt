@@ -6,7 +6,8 @@ use Rattle.strkw_keywords.specs.declared.options.Options.{Options}
 use Rattle.strkw_keywords.specs.Meanings.{Lists, Row, no_lists}
 use Rattle.strkw_keywords.specs.Object.{Settings, default_options}
 use Rattle.strkw_report.specs.Drafts.{draft_numbered}
-use Rattle.strkw_ecma.specs.machine.Outcomes.{takes_pattern, pattern_outcome}
+use Rattle.strkw_regex_reader.specs.machine.Taken.{takes_pattern}
+use Rattle.strkw_ecma.specs.machine.Outcomes.{pattern_outcome}
 use Rattle.strkw_companions.specs.declared.companion.Companion.{Companion}
 use Rattle.strkw_companions.specs.Companions.{name_of, admits, companions_of}
 use Rattle.strkw_c.specs.declared.settings.Choices.{Choices}

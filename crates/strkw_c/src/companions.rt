@@ -4,7 +4,7 @@
 ghost use Rattle.std.specs.Str.{IsUtf8, chars};
 ghost use Rattle.strkw_label.specs.IdnHostName.{IsIdnHostName};
 ghost use Rattle.strkw_mail.specs.IdnMailbox.{IsIdnMailbox};
-ghost use Rattle.strkw_ecma.specs.Regex.{IsRegex};
+ghost use Rattle.strkw_regex_grammar.specs.Regex.{IsRegex};
 ghost use Rattle.strkw_c.specs.Statuses.{Tells};
 
 use crate::encodings::{NO, status_of};

@@ -4,7 +4,7 @@ use Rattle.std.specs.Prelude.{ℕ, List, [], ◌∷◌, Bool, nat_le, codes, fil
 use Rattle.strkw_report.specs.declared.draft.Draft.{Draft}
 use Rattle.strkw_report.specs.declared.draft.Draft.TheVariants.{Draft4, Draft7}
 use Rattle.strkw_report.specs.Drafts.{number_of}
-use Rattle.strkw_ecma.specs.Regex.{IsRegex}
+use Rattle.strkw_regex_grammar.specs.Regex.{IsRegex}
 use Rattle.strkw_label.specs.IdnHostName.{IsIdnHostName}
 use Rattle.strkw_mail.specs.IdnMailbox.{IsIdnMailbox}
 use Rattle.strkw_mail.specs.Mailbox.{IsMailbox}

@@ -1,10 +1,10 @@
 -- Each text is a pattern of ECMA-262 in Unicode mode, or it is not: the recogniser takes it, or it
 -- does not.
 use Rattle.std.specs.Prelude.{ℕ, List, ◌&&◌}
-use Rattle.strkw_ecma.specs.Lookahead.{is_apart}
-use Rattle.strkw_ecma.specs.Regex.{IsRegex}
-use Rattle.strkw_ecma.specs.machine.Recognising.{is_read}
-use Rattle.strkw_ecma.proofs.RegexExact.{exact}
+use Rattle.strkw_regex_grammar.specs.NullEscape.{is_apart}
+use Rattle.strkw_regex_grammar.specs.Regex.{IsRegex}
+use Rattle.strkw_regex_grammar.specs.machine.Recognising.{is_read}
+use Rattle.strkw_regex_grammar.proofs.RegexExact.{exact}
 use Rattle.strkw_companions.specs.Decisions.{Decision, by_other, is_so}
 
 -- each text is a pattern, or it is not

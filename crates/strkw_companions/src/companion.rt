@@ -5,10 +5,10 @@ ghost use Rattle.strkw_companions.specs.Companions as spec;
 ghost use Rattle.strkw_companions.specs.Companions.{first_draft, name_of};
 
 use std::alloc::{AllocError, Global};
-use strkw_ecma::is_valid_regex;
 use strkw_keywords::Format;
 use strkw_label::is_valid_idn_hostname;
 use strkw_mail::{is_valid_email, is_valid_idn_email};
+use strkw_regex_grammar::is_valid_regex;
 use strkw_report::Draft;
 
 /// A format of another standard, which no table of the drafts checks here. A caller registers it under its name.

@@ -1,12 +1,13 @@
 -- `^`, `$`, `\b` and `\B` as lookarounds.
-use Rattle.std.proofs.Common.{◌≡◌, ◌↔◌, ◌⊎◌, ℕ, zero, suc, ◌+◌, ◌≤◌, Bool, false, true, not, List, length, get_or, Option, Some, None, slice_get, arith}
-use Rattle.std.proofs.Common.{refl, sym, ap, subst, ◌∙◌, inl, inr, ⊎_elim, true≢false}
+use Rattle.std.proofs.Common.{◌≡◌, ◌↔◌, ◌⊎◌, ℕ, zero, suc, ◌+◌, ◌≤◌, Bool, false, true, not, List, length, get_or, Option, Some, None, slice_get}
+use Rattle.std.proofs.Common.{arith, refl, sym, ap, subst, ◌∙◌, inl, inr, ⊎_elim, true≢false}
 use Rattle.std.proofs.lemmas.Option.{slice_get-get_or}
-use Rattle.strkw_ecma.specs.Tree.{cat, lookbehind, lookahead, differ, is_member}
-use Rattle.strkw_ecma.specs.Sets.{word_characters}
-use Rattle.strkw_ecma.specs.Meaning.{before, is_edge, is_word, Unless, Matches}
+use Rattle.strkw_regex_core.specs.Tree.{cat, lookbehind, lookahead}
+use Rattle.strkw_charset.specs.Membership.{differ, is_member}
+use Rattle.strkw_charset.specs.Sets.{word_characters}
+use Rattle.strkw_regex_core.specs.Meaning.{before, is_edge, is_word, Unless, Matches}
 use Rattle.strkw_ecma.specs.Laws.{any_character, word_character}
-use Rattle.strkw_ecma.proofs.Search.{before_next}
+use Rattle.strkw_regex_core.proofs.Search.{before_next}
 
 -- no character stands before a place exactly where `[^]` matches up to it from nowhere
 pub nothing_before : (text : List ℕ) (i : ℕ) → i ≤ length text

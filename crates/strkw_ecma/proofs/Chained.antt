@@ -1,20 +1,20 @@
 -- How the code finds the chain of a program.
-use Rattle.std.proofs.Common.{◌≡◌, ℕ, zero, suc, ◌+◌, ◌<◌, ◌≤◌, nat_lt, Bool, true, false, List, [], ◌∷◌, ◌++◌, length, drop}
-use Rattle.std.proofs.Common.{replicate, get_or, Option, Some, refl, sym, ap, ◌∙◌, set, ne_of_lt, drop-cons, drop_of_length-le, get_or-set_same}
-use Rattle.std.proofs.Common.{get_or-set_other, append-nil, arith}
+use Rattle.std.proofs.Common.{◌≡◌, ℕ, zero, suc, ◌+◌, ◌<◌, ◌≤◌, nat_lt, Bool, true, false, List, [], ◌∷◌, ◌++◌, length, drop, replicate, get_or}
+use Rattle.std.proofs.Common.{Option, Some, refl, sym, ap, ◌∙◌, set, ne_of_lt, drop-cons, drop_of_length-le, get_or-set_same, get_or-set_other}
+use Rattle.std.proofs.Common.{append-nil, arith}
 use Rattle.std.proofs.lemmas.List.{append_assoc}
 use Rattle.strkw_ecma.specs.machine.Chains.{once, repeated, AreChained}
 use Rattle.strkw_ecma.specs.machine.Links.{are_below}
-use Rattle.strkw_ecma.specs.machine.Machine.{class_reads}
-use Rattle.strkw_ecma.specs.machine.Shape.{are_within}
+use Rattle.strkw_regex_search.specs.machine.Machine.{class_reads}
+use Rattle.strkw_regex_search.specs.machine.Instructions.{are_within}
 use Rattle.strkw_ecma.specs.declared.links.Often.{Often}
 use Rattle.strkw_ecma.specs.declared.links.Often.TheVariants.{AtMost, AnyTimes, SomeTimes}
-use Rattle.strkw_ecma.specs.declared.code.Class.{Class}
-use Rattle.strkw_ecma.specs.declared.code.Instruction.{Instruction as CodeInstruction}
-use Rattle.strkw_ecma.specs.declared.code.Instruction.TheVariants.{Read, Turn}
-use Rattle.strkw_ecma.specs.declared.code.Turn.TheVariants as turn
-use Rattle.strkw_ecma.proofs.Rows.{one_more}
-use Rattle.strkw_ecma.proofs.Steps.{and_true, and_left, and_right}
+use Rattle.strkw_regex_search.specs.declared.code.Class.{Class}
+use Rattle.strkw_regex_search.specs.declared.code.Instruction.{Instruction as CodeInstruction}
+use Rattle.strkw_regex_search.specs.declared.code.Instruction.TheVariants.{Read, Turn}
+use Rattle.strkw_regex_search.specs.declared.code.Turn.TheVariants as turn
+use Rattle.strkw_charset.proofs.Lists.{one_more}
+use Rattle.strkw_charset.proofs.Booleans.{and_true, and_left, and_right}
 
 -- instructions that read one class more once
 once_append : (ns : List ℕ) (n : ℕ) → once (ns ++ n ∷ []) ≡ once ns ++ Read n false false ∷ []

@@ -1,12 +1,12 @@
 -- The gaps between ranges hold the characters outside these.
-use Rattle.std.proofs.Common.{◌≡◌, ◌⊎◌, ℕ, ◌+◌, ◌-◌, ◌<◌, ◌≤◌, nat_lt, nat_le, Bool, true, false, ◌&&◌, ◌||◌, not, List, [], ◌∷◌, map, refl, sym, ap, ◌∙◌}
-use Rattle.std.proofs.Common.{⊎_elim, arith}
+use Rattle.std.proofs.Common.{◌≡◌, ◌⊎◌, ℕ, ◌+◌, ◌-◌, ◌<◌, ◌≤◌, nat_lt, nat_le, Bool, true, false, ◌&&◌, ◌||◌, not, List, [], ◌∷◌, map, refl, sym, ap}
+use Rattle.std.proofs.Common.{◌∙◌, ⊎_elim, arith}
 use Rattle.std.proofs.lemmas.Bool.{le-leb, lt-leb, leb-true, ltb-true}
-use Rattle.strkw_ecma.specs.Tree.{in_sets}
-use Rattle.strkw_ecma.specs.Codes.{max_code_point}
-use Rattle.strkw_ecma.specs.declared.tree.CharSet.{CharSet}
-use Rattle.strkw_ecma.specs.declared.tree.CharSet.TheVariants.{Range, Property}
-use Rattle.strkw_ecma.proofs.Steps.{and_true, and_left, and_right}
+use Rattle.strkw_charset.specs.Membership.{in_sets}
+use Rattle.strkw_regex_grammar.specs.Codes.{max_code_point}
+use Rattle.strkw_charset.specs.declared.tree.CharSet.{CharSet}
+use Rattle.strkw_charset.specs.declared.tree.CharSet.TheVariants.{Range, Property}
+use Rattle.strkw_charset.proofs.Booleans.{and_true, and_left, and_right}
 
 -- these as sets of characters, and back
 abbrev pub ranges : List (ℕ × ℕ) → List CharSet

@@ -6,25 +6,23 @@ use Rattle.std.proofs.lemmas.Bool.{leb-true, le-leb}
 use Rattle.strkw_pattern.specs.Matcher.{outcome_of}
 use Rattle.strkw_pattern.specs.declared.engine.Outcome.{Outcome}
 use Rattle.strkw_pattern.specs.declared.engine.Outcome.TheVariants.{Match, NoMatch}
-use Rattle.strkw_ecma.specs.Names.{are_distinct}
-use Rattle.strkw_ecma.specs.Syntax.{Disjunction, names}
-use Rattle.strkw_ecma.specs.Syntax.{max_length}
-use Rattle.strkw_ecma.specs.machine.Reading.{read_short, read_pattern, keep_small}
-use Rattle.strkw_ecma.specs.Lookahead.{is_apart}
-use Rattle.strkw_ecma.specs.Front.{parts, steps_of_parts}
-use Rattle.strkw_ecma.specs.Size.{max_steps}
-use Rattle.strkw_ecma.specs.Meaning.{Found}
-use Rattle.strkw_ecma.specs.Tree.{Pattern}
-use Rattle.strkw_ecma.specs.Patterns.{pattern}
+use Rattle.strkw_regex_grammar.specs.Names.{are_distinct}
+use Rattle.strkw_regex_grammar.specs.Syntax.{Disjunction, names, max_length}
+use Rattle.strkw_regex_reader.specs.machine.Reading.{read_short, read_pattern, keep_small, when, read_from, initial}
+use Rattle.strkw_regex_grammar.specs.NullEscape.{is_apart}
+use Rattle.strkw_regex_core.specs.LeadingLookahead.{parts, steps_of_parts}
+use Rattle.strkw_regex_core.specs.Size.{max_steps}
+use Rattle.strkw_regex_core.specs.Meaning.{Found}
+use Rattle.strkw_regex_core.specs.Tree.{Pattern}
+use Rattle.strkw_regex_reader.specs.Patterns.{pattern}
 use Rattle.strkw_ecma.specs.machine.Outcomes.{outcome_of_read}
 use Rattle.strkw_ecma.specs.Laws.{IsPattern, IsExact}
-use Rattle.strkw_ecma.proofs.Readings.{complete}
-use Rattle.strkw_ecma.proofs.Spelled.{IsSpelled, sound}
-use Rattle.strkw_ecma.proofs.Formed.{IsFormed, read_formed}
+use Rattle.strkw_regex_reader.proofs.ReaderComplete.{complete}
+use Rattle.strkw_regex_reader.proofs.ReaderSound.{IsSpelled, sound}
+use Rattle.strkw_regex_reader.proofs.Formed.{IsFormed, read_formed}
 use Rattle.strkw_ecma.proofs.FrontMeaning.{found_parts, parts_are_exact}
-use Rattle.strkw_ecma.proofs.Unmarked.{unmarked_pattern, parts_clean}
-use Rattle.strkw_ecma.specs.machine.Reading.{when, read_from, initial}
-use Rattle.strkw_ecma.specs.machine.Makers.{trees}
+use Rattle.strkw_ecma.proofs.Clean.{unmarked_pattern, parts_clean}
+use Rattle.strkw_regex_reader.specs.machine.Makers.{trees}
 
 -- a tree that is not left out for its size is that of a pattern, if it is one when small
 small_of : (source : List ℕ) (d : Disjunction) (b : Bool) → nat_le (steps_of_parts (parts (pattern d))) max_steps ≡ b

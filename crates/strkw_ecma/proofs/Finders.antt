@@ -1,17 +1,13 @@
 -- What looks for parts, one after the other.
-use Rattle.std.proofs.Common.{◌≡◌, ◌+◌, ℕ, Bool, true, false, ◌&&◌, List, [], ◌∷◌, ◌++◌, length, refl, sym, ap, ◌∙◌, arith}
-use Rattle.strkw_ecma.specs.Tree.{differ}
-use Rattle.strkw_ecma.specs.Mirror.{along}
+use Rattle.std.proofs.Common.{◌≡◌, ℕ, Bool, true, false, ◌&&◌, List, [], ◌∷◌, ◌++◌, refl, sym, ap, ◌∙◌}
+use Rattle.strkw_charset.specs.Membership.{differ}
+use Rattle.strkw_regex_core.specs.Mirror.{along}
 use Rattle.strkw_ecma.specs.machine.Engine.{is_found_by, are_found_by}
-use Rattle.strkw_ecma.specs.machine.Passes.{Pass, pass_of, are_passes_found}
-use Rattle.strkw_ecma.specs.machine.Search.{found_in}
-use Rattle.strkw_ecma.specs.machine.Shape.{outline_pattern}
+use Rattle.strkw_regex_search.specs.machine.Passes.{Pass, pass_of, are_passes_found}
+use Rattle.strkw_regex_search.specs.machine.Search.{found_in}
+use Rattle.strkw_regex_core.specs.machine.Shape.{outline_pattern}
 use Rattle.strkw_ecma.specs.declared.finder.PartFinder.{PartFinder}
-use Rattle.strkw_ecma.specs.declared.passes.Pass.{Pass as CodePass}
-
--- where one is taken of what is left, the count of the others is their number
-pub one_taken : {A : Type 0} {items others : List A} {x : A} {n m : ℕ} → items ≡ x ∷ others → m + 1 ≡ n → n ≡ length items → m ≡ length others
-one_taken taken fewer count = let longer = ap length taken in omega (arith, longer, fewer, count)
+use Rattle.strkw_regex_search.specs.declared.passes.Pass.{Pass as CodePass}
 
 -- three answers hold together in either grouping
 and_grouped : (a b c : Bool) → ((a && b) && c) ≡ (a && (b && c))

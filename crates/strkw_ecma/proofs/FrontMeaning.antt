@@ -3,21 +3,22 @@ use Rattle.std.proofs.Common.{◌≡◌, ◌↔◌, ◌⊎◌, inl, inr, ℕ, ze
 use Rattle.std.proofs.Common.{Some, refl, sym, ap, subst, ◌∙◌, true≢false, arith, if◌then◌else◌, IsTrue}
 use Rattle.std.specs.Prelude.{⊤}
 use Rattle.std.proofs.lemmas.Option.{slice_get-get_or}
-use Rattle.strkw_ecma.specs.Tree.{start, end, boundary, no_boundary, Pattern, empty, class, look, cat, alt, star, plus, lookbehind, lookahead, differ}
-use Rattle.strkw_ecma.specs.Meaning.{before, is_edge, Unless, Matches, Found}
-use Rattle.strkw_ecma.specs.Front.{Part, first_lead, lead, lead_behind, reads_nothing, is_far, is_apart_behind, part_of, fronts, rest, parts}
-use Rattle.strkw_ecma.specs.Front.{AreFound}
-use Rattle.strkw_ecma.specs.machine.Marks.{is_unmarked}
-use Rattle.strkw_ecma.specs.Mirror.{target, sought_in}
-use Rattle.strkw_ecma.specs.machine.Search.{search, are_parts_found, are_parts_clean}
-use Rattle.strkw_ecma.specs.declared.front.Lead.{Lead}
-use Rattle.strkw_ecma.specs.declared.front.Lead.TheVariants.{Nothing, Anchored, Past}
+use Rattle.strkw_regex_core.specs.Tree.{start, end, boundary, no_boundary, Pattern, empty, class, look, cat, alt, star, plus, lookbehind, lookahead}
+use Rattle.strkw_charset.specs.Membership.{differ}
+use Rattle.strkw_regex_core.specs.Meaning.{before, is_edge, Unless, Matches, Found}
+use Rattle.strkw_regex_core.specs.LeadingLookahead.{Part, first_lead, lead, lead_behind, reads_nothing, is_far, is_apart_behind, part_of, fronts, rest, parts}
+use Rattle.strkw_regex_core.specs.LeadingLookahead.{AreFound}
+use Rattle.strkw_regex_core.specs.machine.Positions.{is_unmarked}
+use Rattle.strkw_regex_core.specs.Mirror.{target, sought_in}
+use Rattle.strkw_regex_search.specs.machine.Search.{search, are_parts_found, are_parts_clean}
+use Rattle.strkw_regex_core.specs.declared.leading_lookahead.Lead.{Lead}
+use Rattle.strkw_regex_core.specs.declared.leading_lookahead.Lead.TheVariants.{Nothing, Anchored, Past}
 use Rattle.strkw_ecma.proofs.Anchors.{told_unless}
-use Rattle.strkw_ecma.proofs.FoundIn.{found_in_right}
-use Rattle.strkw_ecma.proofs.Fronts.{rest_apart, rest_with, fronts_apart, fronts_with, far}
-use Rattle.strkw_ecma.proofs.Mirrors.{unless_same, found_sought}
-use Rattle.strkw_ecma.proofs.Search.{before_next}
-use Rattle.strkw_ecma.proofs.Steps.{and_left, and_right}
+use Rattle.strkw_regex_search.proofs.FoundIn.{found_in_right}
+use Rattle.strkw_regex_core.proofs.Fronts.{rest_apart, rest_with, fronts_apart, fronts_with, far}
+use Rattle.strkw_regex_core.proofs.Mirrors.{unless_same, found_sought}
+use Rattle.strkw_regex_core.proofs.Search.{before_next}
+use Rattle.strkw_charset.proofs.Booleans.{and_left, and_right}
 
 -- tests of what a front is
 abbrev is_nothing : Lead → Bool

@@ -1,12 +1,12 @@
 -- What a program without branches reads, instruction by instruction: exactly what its pattern matches.
 use Rattle.std.proofs.Common.{◌≡◌, ◌↔◌, ℕ, Bool, true, false, ◌&&◌, List, [], ◌∷◌, ◌++◌, refl, sym, subst, ◌∙◌, true≢false}
-use Rattle.strkw_ecma.specs.Tree.{Pattern, empty, class, look, cat, alt, star, plus, lookbehind, lookahead}
-use Rattle.strkw_ecma.specs.Meaning.{Matches}
-use Rattle.strkw_ecma.specs.Program.{Instruction, read, assert, peek, fork, other, join, star_begin, star_end, plus_begin, plus_end, look_begin, look_end}
-use Rattle.strkw_ecma.specs.Program.{program, alternatives}
-use Rattle.strkw_ecma.specs.declared.tree.CharSet.{CharSet}
-use Rattle.strkw_ecma.proofs.Programs.{by_class, by_option}
-use Rattle.strkw_ecma.proofs.Steps.{and_true, and_left, and_right}
+use Rattle.strkw_regex_core.specs.Tree.{Pattern, empty, class, look, cat, alt, star, plus, lookbehind, lookahead}
+use Rattle.strkw_regex_core.specs.Meaning.{Matches}
+use Rattle.strkw_regex_core.specs.Program.{Instruction, read, assert, peek, fork, other, join, star_begin, star_end, plus_begin, plus_end, look_begin}
+use Rattle.strkw_regex_core.specs.Program.{look_end, program, alternatives}
+use Rattle.strkw_charset.specs.declared.tree.CharSet.{CharSet}
+use Rattle.strkw_regex_core.proofs.Options.{by_class, by_option}
+use Rattle.strkw_charset.proofs.Booleans.{and_true, and_left, and_right}
 
 -- it reads a class, or asserts
 abbrev pub is_straight : Instruction → Bool

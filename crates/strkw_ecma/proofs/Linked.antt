@@ -1,17 +1,17 @@
 -- How the code looks up the classes of a chain.
 use Rattle.std.proofs.Common.{◌≡◌, ℕ, zero, suc, ◌+◌, ◌-◌, ◌<◌, ◌≤◌, nat_le, nat_lt, Bool, true, false, ◌&&◌, List, [], ◌∷◌, ◌++◌, length, drop, take}
-use Rattle.std.proofs.Common.{replicate, get_or, slice_get, Some, refl, sym, ap, ap₂, ◌∙◌, true≢false, length-take-le, take_all, drop-cons}
-use Rattle.std.proofs.Common.{drop-drop, drop_of_length-le, arith}
+use Rattle.std.proofs.Common.{replicate, get_or, slice_get, Some, refl, sym, ap, ap₂, ◌∙◌, true≢false, length-take-le, take_all, drop-cons, drop-drop}
+use Rattle.std.proofs.Common.{drop_of_length-le, arith}
 use Rattle.std.proofs.lemmas.Bool.Decides.{nat_tests}
 use Rattle.std.proofs.lemmas.List.{length-drop, length-replicate}
 use Rattle.std.specs.Str.{IsAscii}
 use Rattle.std.proofs.lemmas.Str.Ascii.{IsAscii-nil, IsAscii-cons}
 use Rattle.strkw_ecma.specs.machine.Chains.{is_often, numbers_of, ends_of, is_chained}
 use Rattle.strkw_ecma.specs.machine.Links.{begins_with, are_below}
-use Rattle.strkw_ecma.specs.machine.Machine.{class_reads}
-use Rattle.strkw_ecma.specs.declared.links.Chain.{Chain}
-use Rattle.strkw_ecma.specs.declared.code.Class.{Class}
-use Rattle.strkw_ecma.proofs.Steps.{and_left, and_right}
+use Rattle.strkw_regex_search.specs.machine.Machine.{class_reads}
+use Rattle.strkw_ecma.specs.declared.links.FixedSequence.{FixedSequence}
+use Rattle.strkw_regex_search.specs.declared.code.Class.{Class}
+use Rattle.strkw_charset.proofs.Booleans.{and_left, and_right}
 
 -- at a place of a list stands what is looked up there
 pub first_left : (xs : List ℕ) (k : ℕ) → k < length xs → drop k xs ≡ get_or xs k 0 ∷ drop (k + 1) xs
@@ -108,7 +108,7 @@ module _ (classes : List Class) where
   text_ends ns ms cs n e f = sym (ap (λ (l : List ℕ). begins_with classes l []) e) ∙ sym (ap (begins_with classes ns) f)
 
   -- a text is a chain where its three parts are there
-  pub chained_parts : (c : Chain) (count : ℕ) (text : List ℕ) → count + ends_of c ≡ length text → is_often c.often count ≡ true
+  pub chained_parts : (c : FixedSequence) (count : ℕ) (text : List ℕ) → count + ends_of c ≡ length text → is_often c.often count ≡ true
       → is_chained classes c text ≡ (begins_with classes c.first.items text
       && (begins_with classes (replicate count c.middle) (drop (length c.first.items) text)
       && begins_with classes c.last.items (drop count (drop (length c.first.items) text))))
@@ -135,7 +135,7 @@ module _ (classes : List Class) where
       ∙ ap (λ (m : ℕ). begins_with classes (replicate count n) (take m ys)) (sym (length-replicate count n))
       ∙ begins_within (replicate count n) ys
 
-  module _ (c : Chain) (count : ℕ) (text : List ℕ) (all : count + ends_of c ≡ length text) (often : is_often c.often count ≡ true) where
+  module _ (c : FixedSequence) (count : ℕ) (text : List ℕ) (all : count + ends_of c ≡ length text) (often : is_often c.often count ≡ true) where
     -- what stands behind the first part, and the last
     abbrev last_part : Bool
     last_part = begins_with classes c.last.items (drop count (drop (length c.first.items) text))
@@ -161,7 +161,7 @@ module _ (classes : List Class) where
         sym (chained_parts c count text all often ∙ ap (λ (b : Bool). b && rest_part) one ∙ ap (λ (b : Bool). b && last_part) two)
 
   -- where its length does not fit, a text is no chain
-  pub no_length : (c : Chain) (text : List ℕ) → (nat_le (ends_of c) (length text) && is_often c.often (length text - ends_of c)) ≡ false
+  pub no_length : (c : FixedSequence) (text : List ℕ) → (nat_le (ends_of c) (length text) && is_often c.often (length text - ends_of c)) ≡ false
       → false ≡ is_chained classes c text
   no_length c text none =
       sym (regrouped (nat_le (ends_of c) (length text)) (is_often c.often (length text - ends_of c)) _

@@ -1,7 +1,7 @@
 -- Each match of a pattern reads the character that is seen to be needed, so in a text without it the pattern is not
 -- found.
-use Rattle.std.proofs.Common.{◌≡◌, ◌⊎◌, ℕ, zero, suc, ◌-◌, ◌<◌, ◌≤◌, nat_lt, ◌==◌, Bool, true, false, ◌&&◌, List, [], ◌∷◌, reverse}
-use Rattle.std.proofs.Common.{Option, Some, None, slice_get, if◌then◌else◌, length, get_or, true≢false, refl, sym, ap, subst, ◌∙◌, inl, inr, ⊎_elim, arith}
+use Rattle.std.proofs.Common.{◌≡◌, ◌⊎◌, ℕ, zero, suc, ◌-◌, ◌<◌, ◌≤◌, nat_lt, ◌==◌, Bool, true, false, ◌&&◌, List, [], ◌∷◌, reverse, Option, Some}
+use Rattle.std.proofs.Common.{None, slice_get, if◌then◌else◌, length, get_or, true≢false, refl, sym, ap, subst, ◌∙◌, inl, inr, ⊎_elim, arith}
 use Rattle.std.specs.Prelude.{◌≢◌, is_some, not}
 use Rattle.std.proofs.lemmas.Bool.{false_from_ne_true}
 use Rattle.std.proofs.lemmas.Bool.Decides.{nat_tests}
@@ -10,18 +10,21 @@ use Rattle.std.proofs.lemmas.Option.{cond_some, none-some, same_Some}
 use Rattle.memchr.specs.Find.{IsFirstByte, is_byte}
 use Rattle.strkw_text.specs.Delimiters.{Without}
 use Rattle.strkw_text.proofs.Delimiters.{Without-append}
-use Rattle.strkw_ecma.specs.Tree.{Pattern, empty, class, look, cat, alt, star, plus, lookbehind, lookahead, in_sets, is_member}
-use Rattle.strkw_ecma.specs.Glances.{are_told}
-use Rattle.strkw_ecma.specs.Meaning.{Matches}
-use Rattle.strkw_ecma.specs.Mirror.{along}
-use Rattle.strkw_ecma.specs.Patterns.{Times, any_times, some_times, once_at_most, exact_times, least_times, range_times, repetition, quantified_pattern}
-use Rattle.strkw_ecma.specs.machine.Marks.{is_clean}
-use Rattle.strkw_ecma.specs.machine.Needed.{only_character, later, common, is_sure, needed_char}
-use Rattle.strkw_ecma.specs.machine.Search.{search_from}
-use Rattle.strkw_ecma.specs.declared.tree.CharSet.{CharSet}
-use Rattle.strkw_ecma.specs.declared.tree.CharSet.TheVariants.{Range, Property}
-use Rattle.strkw_ecma.proofs.Answers.{search_is_exact}
-use Rattle.strkw_ecma.proofs.Steps.{and_left, and_right, forwards, rounds_forwards}
+use Rattle.strkw_regex_core.specs.Tree.{Pattern, empty, class, look, cat, alt, star, plus, lookbehind, lookahead}
+use Rattle.strkw_charset.specs.Membership.{in_sets, is_member}
+use Rattle.strkw_regex_core.specs.OneCharLookahead.{are_told}
+use Rattle.strkw_regex_core.specs.Meaning.{Matches}
+use Rattle.strkw_regex_core.specs.Mirror.{along}
+use Rattle.strkw_regex_core.specs.Times.{Times, any_times, some_times, once_at_most, exact_times, least_times, range_times, repetition}
+use Rattle.strkw_regex_core.specs.Times.{quantified_pattern}
+use Rattle.strkw_regex_core.specs.machine.Positions.{is_clean}
+use Rattle.strkw_ecma.specs.machine.RequiredByte.{only_character, later, common, is_sure, needed_char}
+use Rattle.strkw_regex_search.specs.machine.Search.{search_from}
+use Rattle.strkw_charset.specs.declared.tree.CharSet.{CharSet}
+use Rattle.strkw_charset.specs.declared.tree.CharSet.TheVariants.{Range, Property}
+use Rattle.strkw_regex_search.proofs.Answers.{search_is_exact}
+use Rattle.strkw_charset.proofs.Booleans.{and_left, and_right}
+use Rattle.strkw_regex_core.proofs.Steps.{forwards, rounds_forwards}
 
 -- the character is one of ASCII, and sets have no other
 abbrev IsOnly : (ℕ → Bool) → ℕ → Type 0

@@ -1,33 +1,34 @@
 -- Each pattern that the engine takes is one of the whole grammar.
-use Rattle.std.proofs.Common.{◌≡◌, ℕ, suc, ◌≤◌, nat_le, Bool, true, false, ◌&&◌, ◌||◌, List, [], ◌∷◌, ◌++◌, length, length-append, refl, sym, ap}
-use Rattle.std.proofs.Common.{◌∙◌, append_assoc, true≢false, arith}
+use Rattle.std.proofs.Common.{◌≡◌, ℕ, suc, ◌≤◌, nat_le, Bool, true, false, ◌&&◌, ◌||◌, List, [], ◌∷◌, ◌++◌, length, length-append, refl, sym, ap, ◌∙◌}
+use Rattle.std.proofs.Common.{append_assoc, true≢false, arith}
 use Rattle.std.specs.Prelude.{is_some}
 use Rattle.std.specs.List.{list_all, list_any}
 use Rattle.std.specs.Str.{byte}
 use Rattle.std.proofs.lemmas.Bool.Decides.{nat_tests}
 use Rattle.std.proofs.lemmas.List.{append-nil}
-use Rattle.strkw_ecma.specs.Codes.{null_code, letter_code, byte_code, unit_code, pair_code, point_code, code_value, is_lead, is_scalar, hex_number}
-use Rattle.strkw_ecma.specs.Classes.{ClassAtom, class_plain, hyphen, class_escaped, class_control, class_set, backspace, class_coded, class_property, Ranges}
-use Rattle.strkw_ecma.specs.Classes.{no_ranges, with_one, with_range, IsClassAtom, AreRanges}
-use Rattle.strkw_ecma.specs.Names.{name_value, same_name, are_distinct}
-use Rattle.strkw_ecma.specs.Numbers.{IsNumber}
-use Rattle.strkw_ecma.specs.Properties.{property_of}
-use Rattle.strkw_ecma.specs.Syntax as syntax
-use Rattle.strkw_ecma.specs.Syntax.{Quantifier, zero_or_more, one_or_more, zero_or_one, exactly, at_least, from_to, greedy, lazy, Group, capturing, plain_group}
-use Rattle.strkw_ecma.specs.Syntax.{named, of_group, of_lookbehind, of_lookahead, quantifier_spelling, group_spelling, lookbehind_spelling, lookahead_spelling}
-use Rattle.strkw_ecma.specs.Syntax.{max_length}
-use Rattle.strkw_ecma.specs.WellFormed.{IsQuantifier, IsWellFormed, IsAlternative, IsTerm, IsAtom}
+use Rattle.strkw_regex_grammar.specs.Codes.{null_code, letter_code, byte_code, unit_code, pair_code, point_code, code_value, is_lead, is_scalar}
+use Rattle.strkw_regex_grammar.specs.Codes.{hex_number}
+use Rattle.strkw_regex_grammar.specs.Classes.{ClassAtom, class_plain, hyphen, class_escaped, class_control, class_set, backspace, class_coded}
+use Rattle.strkw_regex_grammar.specs.Classes.{class_property, Ranges, no_ranges, with_one, with_range, IsClassAtom, AreRanges}
+use Rattle.strkw_regex_grammar.specs.Names.{name_value, same_name, are_distinct}
+use Rattle.strkw_regex_grammar.specs.Numbers.{IsNumber}
+use Rattle.strkw_charset.specs.Properties.{property_of}
+use Rattle.strkw_regex_grammar.specs.Syntax as syntax
+use Rattle.strkw_regex_grammar.specs.Syntax.{Quantifier, zero_or_more, one_or_more, zero_or_one, exactly, at_least, from_to, greedy, lazy}
+use Rattle.strkw_regex_grammar.specs.Syntax.{capturing, plain_group, named, of_group, of_lookbehind, of_lookahead, quantifier_spelling}
+use Rattle.strkw_regex_grammar.specs.Syntax.{group_spelling, lookbehind_spelling, lookahead_spelling}
+use Rattle.strkw_regex_reader.specs.WellFormed.{IsQuantifier, IsWellFormed, IsAlternative, IsTerm, IsAtom}
 use Rattle.strkw_ecma.specs.Laws.{IsPattern}
-use Rattle.strkw_ecma.specs.Regex.{at_start, at_end, at_boundary, at_no_boundary, plain, dot, escaped, control_escape, set_escape, coded, property_escape}
-use Rattle.strkw_ecma.specs.Regex.{numbered, called as calls_for, bracketed, Part, bar, edge, leaf, opens, closes, repeats, lazily, Disjunction, only, either}
-use Rattle.strkw_ecma.specs.Regex.{Alternative, nothing, more, Term, asserted, looks_behind, looks_ahead, once, quantified, Atom, single, group}
-use Rattle.strkw_ecma.specs.Regex.{greed_parts, parts}
-use Rattle.strkw_ecma.specs.Regex.{alternative_parts, term_parts, atom_parts, leaf_spelling, part_spelling, spelling, AreDecimal, IsRepetition, is_tableless}
-use Rattle.strkw_ecma.specs.Regex.{IsClassItem, is_lead_item, is_trail_item, ends_in_lead, AreItems, IsPart, AreParts, captures, names, numbers, calls}
-use Rattle.strkw_ecma.specs.Regex.{IsRegex}
-use Rattle.strkw_ecma.proofs.CodeReadings.{scalar_small}
-use Rattle.strkw_ecma.proofs.RegexSteps.{captures_more, names_more, asked_more}
-use Rattle.strkw_ecma.proofs.RegexSound.{is_number, may_precede}
+use Rattle.strkw_regex_grammar.specs.Regex.{at_start, at_end, at_boundary, at_no_boundary, plain, dot, escaped, control_escape, set_escape, coded}
+use Rattle.strkw_regex_grammar.specs.Regex.{property_escape, numbered, called as calls_for, bracketed, Part, bar, edge, leaf, opens, closes, repeats}
+use Rattle.strkw_regex_grammar.specs.Regex.{lazily, Disjunction, only, either, Alternative, nothing, more, Term, asserted, looks_behind, looks_ahead}
+use Rattle.strkw_regex_grammar.specs.Regex.{once, quantified, Atom, single, group, greed_parts, parts, alternative_parts, term_parts, atom_parts}
+use Rattle.strkw_regex_grammar.specs.Regex.{leaf_spelling, part_spelling, spelling, AreDecimal, IsRepetition, is_tableless, IsClassItem, is_lead_item}
+use Rattle.strkw_regex_grammar.specs.Regex.{is_trail_item, ends_in_lead, AreItems, IsPart, AreParts, captures, names, numbers, calls, IsRegex}
+use Rattle.strkw_regex_grammar.proofs.CodeReadings.{scalar_small}
+use Rattle.strkw_regex_grammar.proofs.RegexSteps.{captures_more, names_more, asked_more}
+use Rattle.strkw_regex_grammar.proofs.RegexFollows.{is_number}
+use Rattle.strkw_regex_grammar.proofs.RegexSound.{may_precede}
 
 abbrev mutual
   -- a tree of the engine's grammar, as one of the whole grammar

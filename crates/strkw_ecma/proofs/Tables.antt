@@ -1,15 +1,19 @@
 -- What a right table comes to is what the search of the pattern does.
-use Rattle.std.proofs.Common.{◌≡◌, ℕ, ◌+◌, ◌*◌, ◌<◌, ◌==◌, Bool, true, false, List, Vec, Global, length, get_or, Option, Some, None, refl, sym, ap, ◌∙◌, arith}
-use Rattle.strkw_ecma.specs.Tree.{Pattern}
-use Rattle.strkw_ecma.specs.Meaning.{is_word, is_edge}
-use Rattle.strkw_ecma.specs.machine.Marks.{leaves, step, mark_classes, is_clean}
-use Rattle.strkw_ecma.specs.machine.Columns.{answers, column_of, has_boundary, Tells}
-use Rattle.strkw_ecma.specs.machine.Table.{entry_at, row_after, found_row, marks_in, IsRowOf, IsEntry, IsRow, IsTable, Searches}
+use Rattle.std.proofs.Common.{◌≡◌, ℕ, ◌+◌, ◌*◌, ◌<◌, ◌==◌, Bool, true, false, List, Vec, Global, length, get_or, Option, Some, None, refl, sym, ap}
+use Rattle.std.proofs.Common.{◌∙◌, arith}
+use Rattle.strkw_regex_core.specs.Tree.{Pattern}
+use Rattle.strkw_regex_core.specs.Meaning.{is_word, is_edge}
+use Rattle.strkw_regex_core.specs.machine.Positions.{leaves, step, mark_classes, is_clean}
+use Rattle.strkw_charset.specs.machine.CharClasses.{answers, column_of}
+use Rattle.strkw_regex_core.specs.machine.Boundaries.{has_boundary}
+use Rattle.strkw_ecma.specs.machine.Told.{Tells}
+use Rattle.strkw_ecma.specs.machine.Dfa.{entry_at, row_after, found_row, marks_in, IsRowOf, IsEntry, IsRow, IsTable, Searches}
 use Rattle.strkw_ecma.specs.declared.states.State.{State}
-use Rattle.strkw_ecma.specs.declared.tree.CharSet.{CharSet}
-use Rattle.strkw_ecma.proofs.Alike.{SameWord, same_leaves, same_step, left, next_word, place_is, marked_tells, marked_word}
-use Rattle.strkw_ecma.proofs.Marked.{unmarked}
-use Rattle.strkw_ecma.proofs.Walks.{walks}
+use Rattle.strkw_charset.specs.declared.tree.CharSet.{CharSet}
+use Rattle.strkw_ecma.proofs.EquivalentChars.{SameWord, same_leaves, same_step, left, next_word, marked_tells, marked_word}
+use Rattle.strkw_charset.proofs.ToldSets.{place_is}
+use Rattle.strkw_regex_search.proofs.Marked.{unmarked}
+use Rattle.strkw_ecma.proofs.DfaRun.{walks}
 
 -- two places with no character are alike for each pattern
 same_word_none : (r : Pattern) → SameWord r None None

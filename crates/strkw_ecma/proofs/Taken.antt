@@ -1,70 +1,34 @@
 -- What the code looks for of a pattern comes to what is defined for its parts.
-use Rattle.std.proofs.Common.{◌≡◌, ◌↔◌, ℕ, ◌<◌, ◌≤◌, nat_le, Bool, true, false, not, ◌&&◌, ◌||◌, List, [], ◌∷◌, ◌++◌, Vec, Global, Option, Some, None}
-use Rattle.std.proofs.Common.{is_some}
-use Rattle.std.proofs.Common.{option_map, refl, sym, ap, subst, ◌∙◌, arith, le-leb}
+use Rattle.std.proofs.Common.{◌≡◌, ◌↔◌, ℕ, ◌<◌, ◌≤◌, nat_le, Bool, true, false, not, ◌&&◌, ◌||◌, List, [], ◌∷◌, Vec, Global, Option, Some, None}
+use Rattle.std.proofs.Common.{is_some, option_map, refl, sym, ap, subst, ◌∙◌, arith, le-leb}
 use Rattle.std.proofs.lemmas.Bool.{lt-leb}
 use Rattle.std.proofs.Math.Path.{fun_ext}
 use Rattle.strkw_pattern.specs.Matcher.{outcome_of}
-use Rattle.strkw_ecma.specs.Tree.{Pattern, differ}
-use Rattle.strkw_ecma.specs.Meaning.{Found}
-use Rattle.strkw_ecma.specs.Glances.{are_told}
-use Rattle.strkw_ecma.specs.Size.{search_steps, max_steps}
-use Rattle.strkw_ecma.specs.Syntax.{Disjunction}
-use Rattle.strkw_ecma.specs.Patterns.{pattern}
-use Rattle.strkw_ecma.specs.Mirror.{mirror, mirror_if, along, is_backward, target, sought_in}
-use Rattle.strkw_ecma.specs.Front.{Part, parts, steps_of_parts}
-use Rattle.strkw_ecma.specs.machine.Marks.{is_unmarked}
-use Rattle.strkw_ecma.specs.machine.Sizes.{cap_steps}
-use Rattle.strkw_ecma.specs.machine.Reading.{keep_small, when}
-use Rattle.strkw_ecma.specs.machine.Makers.{patterns}
-use Rattle.strkw_ecma.specs.machine.Search.{found_in, search, are_parts_found, are_parts_clean}
+use Rattle.strkw_regex_core.specs.Tree.{Pattern}
+use Rattle.strkw_charset.specs.Membership.{differ}
+use Rattle.strkw_regex_core.specs.Meaning.{Found}
+use Rattle.strkw_regex_core.specs.OneCharLookahead.{are_told}
+use Rattle.strkw_regex_core.specs.Size.{max_steps}
+use Rattle.strkw_regex_grammar.specs.Syntax.{Disjunction}
+use Rattle.strkw_regex_reader.specs.Patterns.{pattern}
+use Rattle.strkw_regex_core.specs.Mirror.{mirror_if, along, is_backward, target, sought_in}
+use Rattle.strkw_regex_core.specs.LeadingLookahead.{Part, parts, steps_of_parts}
+use Rattle.strkw_regex_core.specs.machine.Positions.{is_unmarked}
+use Rattle.strkw_regex_core.specs.machine.Sizes.{cap_steps}
+use Rattle.strkw_regex_reader.specs.machine.Reading.{keep_small, when}
+use Rattle.strkw_regex_reader.specs.machine.Makers.{patterns}
+use Rattle.strkw_regex_search.specs.machine.Search.{found_in, search, are_parts_found, are_parts_clean}
 use Rattle.strkw_ecma.specs.machine.Outcomes.{outcome_of_read}
 use Rattle.strkw_ecma.specs.machine.Engine.{are_found_by, engine_outcome}
-use Rattle.strkw_ecma.specs.machine.Passes.{Alike, Pass, IsPass, ArePasses, ComesTo, are_passes_found, are_passes_clean, are_passes_faced, steps_of_passes}
-use Rattle.strkw_ecma.specs.machine.Passes.{pass_of, passes_of}
+use Rattle.strkw_regex_core.specs.machine.EquivalentPatterns.{EquivalentPatterns}
+use Rattle.strkw_regex_search.specs.machine.Passes.{Pass, IsPass, ArePasses, ComesTo, are_passes_found, are_passes_clean, are_passes_faced}
+use Rattle.strkw_regex_search.specs.machine.Passes.{steps_of_passes, passes_of}
 use Rattle.strkw_ecma.specs.declared.engine.EcmaMatcher.{EcmaMatcher}
-use Rattle.strkw_ecma.specs.declared.passes.Pass.{Pass as CodePass}
-use Rattle.strkw_ecma.proofs.Answers.{same_answer}
-use Rattle.strkw_ecma.proofs.FoundIn.{found_in_right}
-use Rattle.strkw_ecma.proofs.Counterparts.{alike_refl}
-use Rattle.strkw_ecma.proofs.Sizes.{told_steps}
-use Rattle.strkw_ecma.proofs.Steps.{and_true, and_left, and_right}
-use Rattle.strkw_ecma.proofs.Unmarked.{unmarked_pattern, parts_clean}
-
--- a pattern that is no better told from the end of a text on is looked for along it
-pub forth_pass : (n : Bool) (p : Pattern) → is_backward p ≡ false
-    → IsPass record { negated = n; backward = false; pattern = p } record { negated = n; pattern = p }
-forth_pass n p along_it = record {
-  negated = refl;
-  backward = sym along_it;
-  alike = subst (λ (b : Bool). Alike p (mirror_if b p)) (sym along_it) (alike_refl p);
-  steps = subst (λ (b : Bool). search_steps p ≡ search_steps (mirror_if b p)) (sym along_it) refl;
-}
-
--- and any other from its end on
-pub back_pass : (n : Bool) (p q : Pattern) → is_backward p ≡ true → Alike q (mirror p)
-    → IsPass record { negated = n; backward = true; pattern = q } record { negated = n; pattern = p }
-back_pass n p q turned u =
-    let told : are_told (mirror p) ≡ true = and_right (not (are_told p)) _ turned in
-    record {
-      negated = refl;
-      backward = sym turned;
-      alike = subst (λ (b : Bool). Alike q (mirror_if b p)) (sym turned) u;
-      steps = subst (λ (b : Bool). search_steps q ≡ search_steps (mirror_if b p)) (sym turned)
-          (told_steps q (u.told ∙ told) ∙ u.steps told ∙ sym (told_steps (mirror p) told));
-    }
-
--- passes one behind another
-pub passes_append : (ps qs : List CodePass) → passes_of (ps ++ qs) ≡ passes_of ps ++ passes_of qs
-passes_append [] qs = refl
-passes_append (p ∷ ps) qs = ap (λ (l : List Pass). pass_of p ∷ l) (passes_append ps qs)
-
--- are those of the parts of both
-pub are_passes_append : (xs ys : List Pass) (us bs : List Part) → ArePasses xs us → ArePasses ys bs → ArePasses (xs ++ ys) (us ++ bs)
-are_passes_append [] ys [] bs u w = w
-are_passes_append [] ys (a ∷ us) bs u w = absurd u
-are_passes_append (x ∷ xs) ys [] bs u w = absurd u
-are_passes_append (x ∷ xs) ys (a ∷ us) bs u w = (u.0, are_passes_append xs ys us bs u.1 w)
+use Rattle.strkw_regex_search.specs.declared.passes.Pass.{Pass as CodePass}
+use Rattle.strkw_regex_search.proofs.Answers.{same_answer}
+use Rattle.strkw_regex_search.proofs.FoundIn.{found_in_right}
+use Rattle.strkw_charset.proofs.Booleans.{and_true, and_left, and_right}
+use Rattle.strkw_ecma.proofs.Clean.{unmarked_pattern, parts_clean}
 
 -- both of two are the same where each is
 both_same : (a b c d : Bool) → a ≡ c → b ≡ d → (a && b) ≡ (c && d)
@@ -104,7 +68,7 @@ steps_same (x ∷ xs) [] u = absurd u
 steps_same (x ∷ xs) (a ∷ us) u = omega (arith, u.0.steps, steps_same xs us u.1)
 
 -- what is alike is found in the same texts
-found_alike : (p q : Pattern) (text : List ℕ) → Alike p q → Found p text ↔ Found q text
+found_alike : (p q : Pattern) (text : List ℕ) → EquivalentPatterns p q → Found p text ↔ Found q text
 found_alike p q text u = (
   λ f. (f.0, f.1, f.2, (u.meaning text f.0 f.1).0 f.3),
   λ f. (f.0, f.1, f.2, (u.meaning text f.0 f.1).1 f.3),

@@ -1,19 +1,21 @@
 -- The grammar and the meaning of a pattern's text, with no reader and no marks in them.
 use Rattle.std.specs.Prelude.{◌≡◌, ◌↔◌, ◌⊎◌, ℕ, ◌≤◌, true, false, not, IsTrue, List, [], length}
 use Rattle.strkw_pattern.specs.declared.engine.Outcome.TheVariants.{Match, NoMatch}
-use Rattle.strkw_ecma.specs.Names.{are_distinct}
-use Rattle.strkw_ecma.specs.Syntax.{Disjunction, spelling, names, max_length}
-use Rattle.strkw_ecma.specs.WellFormed.{IsWellFormed}
-use Rattle.strkw_ecma.specs.Tree.{Pattern, class, cat, alt, lookbehind, lookahead, in_sets}
-use Rattle.strkw_ecma.specs.Sets.{word_characters}
-use Rattle.strkw_ecma.specs.declared.tree.CharSet.{CharSet}
-use Rattle.strkw_ecma.specs.Codes.{max_code_point}
-use Rattle.strkw_ecma.specs.Lookahead.{is_apart}
-use Rattle.strkw_ecma.specs.Size.{max_steps}
-use Rattle.strkw_ecma.specs.Front.{parts, steps_of_parts}
-use Rattle.strkw_ecma.specs.Meaning.{Found}
-use Rattle.strkw_ecma.specs.Patterns.{pattern}
-use Rattle.strkw_ecma.specs.machine.Outcomes.{takes_pattern, pattern_outcome}
+use Rattle.strkw_regex_grammar.specs.Names.{are_distinct}
+use Rattle.strkw_regex_grammar.specs.Syntax.{Disjunction, spelling, names, max_length}
+use Rattle.strkw_regex_reader.specs.WellFormed.{IsWellFormed}
+use Rattle.strkw_regex_core.specs.Tree.{Pattern, class, cat, alt, lookbehind, lookahead}
+use Rattle.strkw_charset.specs.Membership.{in_sets}
+use Rattle.strkw_charset.specs.Sets.{word_characters}
+use Rattle.strkw_charset.specs.declared.tree.CharSet.{CharSet}
+use Rattle.strkw_regex_grammar.specs.Codes.{max_code_point}
+use Rattle.strkw_regex_grammar.specs.NullEscape.{is_apart}
+use Rattle.strkw_regex_core.specs.Size.{max_steps}
+use Rattle.strkw_regex_core.specs.LeadingLookahead.{parts, steps_of_parts}
+use Rattle.strkw_regex_core.specs.Meaning.{Found}
+use Rattle.strkw_regex_reader.specs.Patterns.{pattern}
+use Rattle.strkw_regex_reader.specs.machine.Taken.{takes_pattern}
+use Rattle.strkw_ecma.specs.machine.Outcomes.{pattern_outcome}
 
 -- each character is in one of the two
 abbrev pub AreComplements : List CharSet → List CharSet → Type 0

@@ -2,17 +2,18 @@
 
 ghost use Rattle.std.specs.Prelude.{◌≡◌, ◌≤◌, ℕ, List, true, false, IfOk, IfErr, IsOk};
 ghost use Rattle.std.specs.Str.{chars};
-ghost use Rattle.strkw_ecma.specs.Size.{max_steps};
+ghost use Rattle.strkw_regex_core.specs.Size.{max_steps};
 ghost use Rattle.strkw_ecma.specs.machine.Engine.{are_found_by, have_rows, have_tables as spec_have_tables};
 ghost use Rattle.strkw_ecma.specs.machine.Engine.{have_chains as spec_have_chains};
-ghost use Rattle.strkw_ecma.specs.machine.Outcomes.{takes_pattern, pattern_outcome};
-ghost use Rattle.strkw_ecma.specs.machine.Passes.{are_passes_clean, are_passes_faced, are_passes_found, passes_of, steps_of_passes};
+ghost use Rattle.strkw_regex_reader.specs.machine.Taken.{takes_pattern};
+ghost use Rattle.strkw_ecma.specs.machine.Outcomes.{pattern_outcome};
+ghost use Rattle.strkw_regex_search.specs.machine.Passes.{are_passes_clean, are_passes_faced, are_passes_found, passes_of, steps_of_passes};
 
 use crate::finder::PartFinder;
-use crate::passes::Pass;
-use crate::reader::read_passes;
+use crate::taking::read_passes;
 use std::alloc::{AllocError, Global};
 use strkw_pattern::{BuildRefusal, EngineBuilder, EngineFailure, RegexEngine};
+use strkw_regex_search::passes::Pass;
 
 /// A pattern that is ready to be matched. `EcmaPatterns` builds it.
 #[derive(Drop)]

@@ -2,30 +2,31 @@
 
 ghost use Rattle.std.specs.Prelude.{◌≡◌, ◌≤◌, ◌||◌, not, ℕ, Bool, List, true, false, IsTrue, IsOk, IfOk, IfSome, None, Some};
 ghost use Rattle.std.specs.Str.{chars};
-ghost use Rattle.strkw_ecma.specs.Glances.{are_told};
-ghost use Rattle.strkw_ecma.specs.Mirror.{along};
-ghost use Rattle.strkw_ecma.specs.Size.{steps, search_steps, max_steps};
+ghost use Rattle.strkw_regex_core.specs.OneCharLookahead.{are_told};
+ghost use Rattle.strkw_regex_core.specs.Mirror.{along};
+ghost use Rattle.strkw_regex_core.specs.Size.{steps, search_steps, max_steps};
 ghost use Rattle.strkw_ecma.specs.machine.Chains.{are_chained, AreTabled};
-ghost use Rattle.strkw_ecma.specs.machine.Machine.{pattern_of};
-ghost use Rattle.strkw_ecma.specs.machine.Marks.{is_clean, is_unmarked};
-ghost use Rattle.strkw_ecma.specs.machine.Needed.{needed_char as spec_needed};
-ghost use Rattle.strkw_ecma.specs.machine.Search.{search_from};
+ghost use Rattle.strkw_regex_search.specs.machine.Machine.{pattern_of};
+ghost use Rattle.strkw_regex_core.specs.machine.Positions.{is_clean, is_unmarked};
+ghost use Rattle.strkw_ecma.specs.machine.RequiredByte.{needed_char as spec_needed};
+ghost use Rattle.strkw_regex_search.specs.machine.Search.{search_from};
 ghost use Rattle.strkw_ecma.specs.machine.Searches.{IsSearchedBy};
-ghost use Rattle.strkw_ecma.specs.machine.Shape.{outline_pattern};
-ghost use Rattle.strkw_ecma.specs.declared.branches.Branches.{Branches};
-ghost use Rattle.strkw_ecma.specs.declared.table.Table.{Table};
+ghost use Rattle.strkw_regex_core.specs.machine.Shape.{outline_pattern};
+ghost use Rattle.strkw_ecma.specs.declared.sequence_pair.SequencePair.{SequencePair};
+ghost use Rattle.strkw_ecma.specs.declared.dfa.Dfa.{Dfa};
 
-use crate::branches::Branches;
-use crate::finding::is_found;
-use crate::making::table_of;
-use crate::needed::{LONG, lacks};
-use crate::outline::Outline;
-use crate::passes::Pass;
-use crate::program::Program;
-use crate::seeker::Seeker;
-use crate::seekers::{rows_of, seekers_of};
-use crate::table::Table;
+use crate::determinise::table_of;
+use crate::dfa::Dfa;
+use crate::required_byte::{LONG, lacks, needed_byte};
+use crate::sequence_pair::SequencePair;
 use std::alloc::{AllocError, Global};
+use strkw_regex_core::counted_regex::CountedRegex;
+use strkw_regex_search::finding::is_found;
+use strkw_regex_search::oracle_passes::set_aside;
+use strkw_regex_search::oracle_runner::OracleRunner;
+use strkw_regex_search::oracle_runners::{rows_of, seekers_of};
+use strkw_regex_search::passes::Pass;
+use strkw_regex_search::program::Program;
 
 /// How many bytes a text has, at least, that is searched by a chain where there is a table too. A table is quicker for
 /// a shorter one.
@@ -35,29 +36,29 @@ const LEAST_CHAINED: usize = 8;
 #[derive(Drop)]
 pub(crate) struct Finder {
     pub(crate) program: Program,
-    pub(crate) table: Option<Table>,
-    chains: Option<Branches>,
+    pub(crate) table: Option<Dfa>,
+    chains: Option<SequencePair>,
     needed: Option<u8>,
     ghost clean: { is_clean (pattern_of program) ≡ true },
     ghost told: { are_told (pattern_of program) ≡ true },
-    ghost exact: { (t : Table) → table ≡ Some t → IsSearchedBy t (pattern_of program) },
-    ghost tabled: { (b : Branches) → chains ≡ Some b → AreTabled b program.code.classes.items },
-    ghost chained: { (b : Branches) → chains ≡ Some b → (text : List ℕ)
+    ghost exact: { (t : Dfa) → table ≡ Some t → IsSearchedBy t (pattern_of program) },
+    ghost tabled: { (b : SequencePair) → chains ≡ Some b → AreTabled b program.code.classes.items },
+    ghost chained: { (b : SequencePair) → chains ≡ Some b → (text : List ℕ)
         → are_chained program.code.classes.items b text
         ≡ search_from (pattern_of program) None text },
     ghost read: { needed ≡ spec_needed (pattern_of program) },
 }
 
 impl Finder {
-    pub(crate) fn of(alloc: Global, outline: Outline) -> Result<Finder, AllocError>
+    pub(crate) fn of(alloc: Global, outline: CountedRegex) -> Result<Finder, AllocError>
         requires small { steps (outline_pattern outline) ≤ max_steps }
         requires clean { is_clean (outline_pattern outline) ≡ true }
         requires told { are_told (outline_pattern outline) ≡ true }
         ensures { IfOk result (λ f. pattern_of f.program ≡ outline_pattern outline) }
     {
-        let needed = outline.needed_byte();
+        let needed = needed_byte(&outline);
         let program = Program::of(alloc, outline)?;
-        let chains = Branches::of(alloc, &program.code)?;
+        let chains = SequencePair::of(alloc, &program.code)?;
         let table = table_of(alloc, &program, chains.is_some())?;
         Ok(Finder {
             program,
@@ -118,16 +119,22 @@ impl Finder {
 #[derive(Drop)]
 pub(crate) enum Search {
     /// In one pass, along the text or backward.
-    Plain { is_backward: bool, finder: Finder },
+    Plain {
+        is_backward: bool,
+        finder: Finder,
+    },
     /// By the last, whose marks are told by those before it.
-    Told { asides: Vec<Seeker>, last: Seeker },
+    Told {
+        asides: Vec<OracleRunner>,
+        last: OracleRunner,
+    },
 }
 
 impl Search {
     ghost use Rattle.strkw_ecma.specs.machine.Engine.{has_rows, is_found_by};
-    ghost use Rattle.strkw_ecma.specs.machine.Search.{found_in};
+    ghost use Rattle.strkw_regex_search.specs.machine.Search.{found_in};
 
-    fn of(alloc: Global, pattern: Outline, is_backward: bool) -> Result<Search, AllocError>
+    fn of(alloc: Global, pattern: CountedRegex, is_backward: bool) -> Result<Search, AllocError>
         requires bare { is_unmarked (outline_pattern pattern) ≡ true }
         requires faced { (not is_backward || are_told (outline_pattern pattern)) ≡ true }
         requires small { search_steps (outline_pattern pattern) ≤ max_steps }
@@ -142,10 +149,10 @@ impl Search {
             });
         }
         let mut asides = Vec::new(alloc);
-        let last = pattern.set_aside(alloc, is_backward, &mut asides)?;
+        let last = set_aside(pattern, alloc, is_backward, &mut asides)?;
         Ok(Search::Told {
             asides: seekers_of(alloc, asides)?,
-            last: Seeker::of(alloc, last)?,
+            last: OracleRunner::of(alloc, last)?,
         })
     }
 
@@ -175,7 +182,7 @@ pub(crate) struct PartFinder {
 
 impl PartFinder {
     ghost use Rattle.strkw_ecma.specs.machine.Engine.{has_rows, is_found_by, reads_chain, reads_table};
-    ghost use Rattle.strkw_ecma.specs.machine.Search.{found_in};
+    ghost use Rattle.strkw_regex_search.specs.machine.Search.{found_in};
 
     pub(crate) fn of(alloc: Global, pass: Pass) -> Result<PartFinder, AllocError>
         requires bare { is_unmarked (outline_pattern pass.pattern) ≡ true }

@@ -3,16 +3,16 @@
 ghost use Rattle.std.specs.Prelude.{ℕ, ◌*◌, ◌≤◌, ◌↔◌, true, List, length, reverse};
 ghost use Rattle.strkw_ecma.specs.Laws.{AreComplements, any_character, IsExact, IsPattern};
 ghost use Rattle.strkw_ecma.specs.Laws.{word_edge, no_word_edge};
-ghost use Rattle.strkw_ecma.specs.Tree.{Pattern, start, end, boundary, no_boundary, look, lookbehind, lookahead};
-ghost use Rattle.strkw_ecma.specs.Front.{AreFound, parts};
-ghost use Rattle.strkw_ecma.specs.Meaning.{Found, Matches};
-ghost use Rattle.strkw_ecma.specs.Mirror.{mirror};
-ghost use Rattle.strkw_ecma.specs.Syntax.{Disjunction};
-ghost use Rattle.strkw_ecma.specs.Size.{max_steps};
-ghost use Rattle.strkw_ecma.specs.machine.Counted.{AreSearchedWithin};
-ghost use Rattle.strkw_ecma.specs.Patterns.{pattern};
-ghost use Rattle.strkw_ecma.specs.Regex.{IsRegex};
-ghost use Rattle.strkw_ecma.specs.Sets.{digits, non_digits, white_space, non_white_space, word_characters, non_word_characters};
+ghost use Rattle.strkw_regex_core.specs.Tree.{Pattern, start, end, boundary, no_boundary, look, lookbehind, lookahead};
+ghost use Rattle.strkw_regex_core.specs.LeadingLookahead.{AreFound, parts};
+ghost use Rattle.strkw_regex_core.specs.Meaning.{Found, Matches};
+ghost use Rattle.strkw_regex_core.specs.Mirror.{mirror};
+ghost use Rattle.strkw_regex_grammar.specs.Syntax.{Disjunction};
+ghost use Rattle.strkw_regex_core.specs.Size.{max_steps};
+ghost use Rattle.strkw_regex_search.specs.machine.Counted.{AreSearchedWithin};
+ghost use Rattle.strkw_regex_reader.specs.Patterns.{pattern};
+ghost use Rattle.strkw_regex_grammar.specs.Regex.{IsRegex};
+ghost use Rattle.strkw_charset.specs.Sets.{digits, non_digits, white_space, non_white_space, word_characters, non_word_characters};
 
 /// What `takes` and `outcome` of `EcmaPatterns` come to, said by the grammar and the meaning: for every text, it is
 /// taken exactly where some tree of the grammar is spelled so, it has one tree at most, its outcome on each text is a

@@ -3,14 +3,14 @@
 
 ghost use Rattle.std.specs.Prelude.{◌≡◌, ◌<◌, List, true, length, drop, replicate, slice_get, Some, IsTrue};
 ghost use Rattle.std.specs.Str.{IsAscii};
-ghost use Rattle.strkw_ecma.specs.machine.Along.{left_of};
+ghost use Rattle.strkw_regex_search.specs.machine.Along.{left_of};
 ghost use Rattle.strkw_ecma.specs.machine.Links.{are_below, AreTables, begins_with};
-ghost use Rattle.strkw_ecma.specs.machine.Machine.{class_reads};
-ghost use Rattle.strkw_ecma.specs.declared.code.Class.{Class};
+ghost use Rattle.strkw_regex_search.specs.machine.Machine.{class_reads};
+ghost use Rattle.strkw_regex_search.specs.declared.code.Class.{Class};
 
-use crate::along::Along;
-use crate::code::Class;
-use crate::marks::reads_class;
+use strkw_regex_core::marks::reads_class;
+use strkw_regex_search::along::Along;
+use strkw_regex_search::code::Class;
 
 /// For each byte whether it is a character of ASCII that a class has.
 pub(crate) type ClassTable = [bool; 256];
@@ -23,9 +23,9 @@ pub(crate) enum Often {
     SomeTimes,
 }
 
-/// A chain. `Chain::of` makes it of a program, whose classes it names by their numbers.
+/// A chain. `FixedSequence::of` makes it of a program, whose classes it names by their numbers.
 #[derive(Drop)]
-pub(crate) struct Chain {
+pub(crate) struct FixedSequence {
     /// The classes that are read once each before the one class.
     pub(crate) first: Vec<usize>,
     /// The one class, and how often it may be read.

@@ -1,10 +1,10 @@
 //! Runs of rows that each lead on to the next, which the search goes along without waiting for its entries.
 
 ghost use Rattle.std.specs.Prelude.{◌<◌};
-ghost use Rattle.strkw_ecma.specs.machine.Table.{SayTheSame};
+ghost use Rattle.strkw_ecma.specs.machine.Dfa.{SayTheSame};
 
+use crate::dfa::{FOUND, NEXT_ROW};
 use crate::states::place_of_row;
-use crate::table::{FOUND, NEXT_ROW};
 
 /// How many rows one behind another, each of which leads on to the next, are worth telling the processor of. In fewer
 /// it would gain less than it loses where it guesses wrong.

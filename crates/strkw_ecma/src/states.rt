@@ -2,17 +2,18 @@
 
 ghost use Rattle.std.specs.Prelude.{◌≡◌, ◌*◌, ◌+◌, ◌≤◌, ◌<◌};
 ghost use Rattle.std.specs.Prelude.{ℕ, length, true, false, IsTrue, IfOk, IfSome, None, Some, get_or, slice_get};
-ghost use Rattle.strkw_ecma.specs.machine.Marks.{classes as spec_classes, leaves, step as spec_step, mark_classes};
-ghost use Rattle.strkw_ecma.specs.Meaning.{is_word as spec_is_word, is_edge as spec_is_edge};
-ghost use Rattle.strkw_ecma.specs.machine.Machine.{pattern_of, AreReadsOf};
-ghost use Rattle.strkw_ecma.specs.machine.Columns.{has_boundary as spec_has_boundary};
-ghost use Rattle.strkw_ecma.specs.machine.Table.{next_row, marks_in, IsStateOf, IsEntry, IsFront};
+ghost use Rattle.strkw_regex_core.specs.machine.Positions.{classes as spec_classes, leaves, step as spec_step, mark_classes};
+ghost use Rattle.strkw_regex_core.specs.Meaning.{is_word as spec_is_word, is_edge as spec_is_edge};
+ghost use Rattle.strkw_regex_search.specs.machine.Machine.{pattern_of, AreReadsOf};
+ghost use Rattle.strkw_regex_core.specs.machine.Boundaries.{has_boundary as spec_has_boundary};
+ghost use Rattle.strkw_ecma.specs.machine.Dfa.{next_row, marks_in, IsStateOf, IsEntry};
+ghost use Rattle.strkw_charset.specs.machine.Lists.{IsFront};
 
-use crate::marks::{are_same_marks, are_unmarked, is_word};
-use crate::program::Program;
-use crate::table::{FOUND, NEXT_ROW};
-use crate::walk::Walk;
+use crate::dfa::{FOUND, NEXT_ROW};
 use std::alloc::{AllocError, Global};
+use strkw_regex_core::marks::is_word;
+use strkw_regex_search::program::Program;
+use strkw_regex_search::walk::Walk;
 
 /// A state of the search between two characters: the marks, and a character that may stand for the last. States of
 /// the same marks have the same `digest`.
@@ -168,4 +169,18 @@ pub(crate) fn entry_of(
     }
     let behind = number_of(alloc, states, program, at_hand, c)?;
     Ok(place_of_row(behind, end))
+}
+
+// Whether both are the same marks.
+fn are_same_marks(one: &[bool], other: &[bool]) -> bool
+    ensures { IsTrue result → one.now ≡ other.now }
+{
+    one == other
+}
+
+// Whether no mark is set.
+fn are_unmarked(marks: &[bool]) -> bool
+    ensures { IsTrue result → (k : ℕ) → get_or marks.now k false ≡ false }
+{
+    !marks.contains(&true)
 }

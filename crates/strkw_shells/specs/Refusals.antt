@@ -2,9 +2,9 @@
 use Rattle.std.specs.Prelude.{◌≡◌, ◌⊎◌, ℕ, List, Option, Some, None, IfSome, is_none, ⊤}
 use Rattle.std.specs.Str.{chars}
 use Rattle.serde_json.specs.Data.{Data}
-use Rattle.strkw_ecma.specs.declared.refusals.PatternRefusal.{PatternRefusal}
-use Rattle.strkw_ecma.specs.Refusals.{IsReason}
-use Rattle.strkw_ecma.specs.machine.Outcomes.{takes_pattern}
+use Rattle.strkw_regex_reader.specs.declared.refusals.PatternRefusal.{PatternRefusal}
+use Rattle.strkw_regex_reader.specs.Refusals.{IsReason}
+use Rattle.strkw_regex_reader.specs.machine.Taken.{takes_pattern}
 use Rattle.strkw_report.specs.declared.draft.Draft.{Draft}
 use Rattle.strkw_keywords.specs.Object.{Settings}
 use Rattle.strkw_plan.specs.declared.kind.PlanKind.{PlanKind}

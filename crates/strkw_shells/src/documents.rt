@@ -8,7 +8,8 @@ ghost use Rattle.strkw_plan.specs.Plan.{Plan as PlanView, plan_of, plan_problem}
 ghost use Rattle.strkw_shells.specs.Documents.{IsChecked, IsWhyUnchecked};
 ghost use Rattle.strkw_shells.specs.Refusals.{IsWhyNoPlan, IsWhyRefused};
 ghost use Rattle.strkw_plan.specs.Rules.{rules_settings};
-ghost use Rattle.strkw_ecma.specs.machine.Outcomes.{takes_pattern, pattern_outcome};
+ghost use Rattle.strkw_regex_reader.specs.machine.Taken.{takes_pattern};
+ghost use Rattle.strkw_ecma.specs.machine.Outcomes.{pattern_outcome};
 
 use crate::checks::checks_of;
 use crate::faults::FileFault;

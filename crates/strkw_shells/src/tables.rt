@@ -8,7 +8,8 @@ ghost use Rattle.strkw_plan.specs.declared.kind.PlanKind.TheVariants.{Columns};
 ghost use Rattle.strkw_plan.specs.Plan.{plan_problem};
 ghost use Rattle.strkw_shells.specs.Refusals.{IsWhyRefused};
 ghost use Rattle.strkw_plan.specs.Rules.{rules_settings};
-ghost use Rattle.strkw_ecma.specs.machine.Outcomes.{takes_pattern, pattern_outcome};
+ghost use Rattle.strkw_regex_reader.specs.machine.Taken.{takes_pattern};
+ghost use Rattle.strkw_ecma.specs.machine.Outcomes.{pattern_outcome};
 ghost use Rattle.strkw_table.specs.Checks.{IsChecked};
 ghost use Rattle.strkw_shells.specs.Tables.{IsWhyUnchecked};
 

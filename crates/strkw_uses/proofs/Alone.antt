@@ -17,11 +17,12 @@ use Rattle.strkw_keywords.specs.Demands.{found_by_outcome}
 use Rattle.strkw_keywords.specs.Errors.{reports_of, NodeReports}
 use Rattle.strkw_keywords.specs.Object.{Settings, Entry, nothing, engine_entry, Keyed, keywords, AreEntriesOf, AreEntries, all_assertions, refusal, Errors}
 use Rattle.strkw_keywords.specs.Object.{FirstRefusal}
-use Rattle.strkw_ecma.specs.Syntax.{Disjunction}
-use Rattle.strkw_ecma.specs.Patterns.{pattern}
-use Rattle.strkw_ecma.specs.Meaning.{Found}
+use Rattle.strkw_regex_grammar.specs.Syntax.{Disjunction}
+use Rattle.strkw_regex_reader.specs.Patterns.{pattern}
+use Rattle.strkw_regex_core.specs.Meaning.{Found}
 use Rattle.strkw_ecma.specs.Laws.{IsPattern, IsExact}
-use Rattle.strkw_ecma.specs.machine.Outcomes.{takes_pattern, pattern_outcome}
+use Rattle.strkw_regex_reader.specs.machine.Taken.{takes_pattern}
+use Rattle.strkw_ecma.specs.machine.Outcomes.{pattern_outcome}
 use Rattle.strkw_uses.specs.Patterns.{pattern_alone, settings_with_patterns, AreErrors, SaysItsPattern}
 
 -- the entries of the object: that of the pattern alone is something

@@ -12,11 +12,12 @@ use Rattle.strkw_keywords.specs.Keywords.{keyword_name}
 use Rattle.strkw_keywords.specs.Meanings.{Lists}
 use Rattle.strkw_keywords.specs.Places.{Place, standing}
 use Rattle.strkw_keywords.specs.Object.{Settings, default_options, Errors, FirstRefusal}
-use Rattle.strkw_ecma.specs.Syntax.{Disjunction}
-use Rattle.strkw_ecma.specs.Patterns.{pattern}
-use Rattle.strkw_ecma.specs.Meaning.{Found}
+use Rattle.strkw_regex_grammar.specs.Syntax.{Disjunction}
+use Rattle.strkw_regex_reader.specs.Patterns.{pattern}
+use Rattle.strkw_regex_core.specs.Meaning.{Found}
 use Rattle.strkw_ecma.specs.Laws.{IsPattern}
-use Rattle.strkw_ecma.specs.machine.Outcomes.{takes_pattern, pattern_outcome}
+use Rattle.strkw_regex_reader.specs.machine.Taken.{takes_pattern}
+use Rattle.strkw_ecma.specs.machine.Outcomes.{pattern_outcome}
 
 -- the members of `{"pattern": p}`
 abbrev pub pattern_alone : List ℕ → Members

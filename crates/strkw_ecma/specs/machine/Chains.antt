@@ -4,15 +4,15 @@
 use Rattle.std.specs.Prelude.{◌≡◌, ℕ, ◌+◌, ◌-◌, nat_le, Bool, true, false, ◌&&◌, List, [], ◌∷◌}
 use Rattle.std.specs.Prelude.{◌++◌, length, replicate, ◌||◌, ◌⊎◌, Option, Some, None}
 use Rattle.strkw_ecma.specs.machine.Links.{begins_with, AreTables}
-use Rattle.strkw_ecma.specs.declared.branches.Branches.{Branches}
-use Rattle.strkw_ecma.specs.declared.links.Chain.{Chain}
+use Rattle.strkw_ecma.specs.declared.sequence_pair.SequencePair.{SequencePair}
+use Rattle.strkw_ecma.specs.declared.links.FixedSequence.{FixedSequence}
 use Rattle.strkw_ecma.specs.declared.links.Often.{Often}
 use Rattle.strkw_ecma.specs.declared.links.Often.TheVariants.{AtMost, AnyTimes, SomeTimes}
-use Rattle.strkw_ecma.specs.declared.code.Class.{Class}
-use Rattle.strkw_ecma.specs.declared.code.Code.{Code}
-use Rattle.strkw_ecma.specs.declared.code.Instruction.{Instruction}
-use Rattle.strkw_ecma.specs.declared.code.Instruction.TheVariants.{Read, Turn}
-use Rattle.strkw_ecma.specs.declared.code.Turn.TheVariants as turn
+use Rattle.strkw_regex_search.specs.declared.code.Class.{Class}
+use Rattle.strkw_regex_search.specs.declared.code.Code.{Code}
+use Rattle.strkw_regex_search.specs.declared.code.Instruction.{Instruction}
+use Rattle.strkw_regex_search.specs.declared.code.Instruction.TheVariants.{Read, Turn}
+use Rattle.strkw_regex_search.specs.declared.code.Turn.TheVariants as turn
 
 -- it may be read so often
 abbrev pub is_often : Often → ℕ → Bool
@@ -21,15 +21,15 @@ is_often AnyTimes count = true
 is_often SomeTimes count = nat_le 1 count
 
 -- the classes of a chain whose one class is read so often
-abbrev pub numbers_of : Chain → ℕ → List ℕ
+abbrev pub numbers_of : FixedSequence → ℕ → List ℕ
 numbers_of c count = c.first.items ++ (replicate count c.middle ++ c.last.items)
 
 -- how many characters stand before and behind those of the one class
-abbrev pub ends_of : Chain → ℕ
+abbrev pub ends_of : FixedSequence → ℕ
 ends_of c = length c.first.items + length c.last.items
 
 -- the text is one character of each class
-abbrev pub is_chained : List Class → Chain → List ℕ → Bool
+abbrev pub is_chained : List Class → FixedSequence → List ℕ → Bool
 is_chained classes c text = nat_le (ends_of c) (length text)
     && (is_often c.often (length text - ends_of c)
     && begins_with classes (numbers_of c (length text - ends_of c)) text)
@@ -51,36 +51,38 @@ AreChained all first often middle last = all ≡ Turn turn.Start
     ∷ (once first ++ (repeated often middle ++ (once last ++ (Turn turn.End ∷ []))))
 
 -- the chain is that of these instructions
-pub record IsChainIn (c : Chain) (classes : List Class) (all : List Instruction) : Type 0 where
+pub record IsChainIn (c : FixedSequence) (classes : List Class) (all : List Instruction)
+    : Type 0 where
   pub written_is : AreChained all c.first.items c.often c.middle c.last.items
   pub tables_are : AreTables classes c.tables.items
 
 -- the text is one character of each class of a chain, if there is one
-abbrev pub is_other_chained : List Class → Option Chain → List ℕ → Bool
+abbrev pub is_other_chained : List Class → Option FixedSequence → List ℕ → Bool
 is_other_chained classes None text = false
 is_other_chained classes (Some c) text = is_chained classes c text
 
 -- or of another
-abbrev pub are_chained : List Class → Branches → List ℕ → Bool
+abbrev pub are_chained : List Class → SequencePair → List ℕ → Bool
 are_chained classes b text = is_chained classes b.one text || is_other_chained classes b.other text
 
 -- instructions have one class that may be missing: without it they are a chain, and with it another
-pub record HasOption (b : Branches) (code : Code) : Type 0 where
+pub record HasOption (b : SequencePair) (code : Code) : Type 0 where
   pub before : List Instruction
   pub behind : List Instruction
   pub number : ℕ
-  pub other : Chain
+  pub other : FixedSequence
   pub written_is : code.instructions.items ≡ before ++ (Read number false true ∷ behind)
   pub is_there : b.other ≡ Some other
   pub without_it : IsChainIn b.one code.classes.items (before ++ behind)
   pub with_it : IsChainIn other code.classes.items (before ++ (Read number false false ∷ behind))
 
 -- the chain of a program, or the two
-abbrev pub AreBranchesOf : Branches → Code → Type 0
+abbrev pub AreBranchesOf : SequencePair → Code → Type 0
 AreBranchesOf b code =
-    ((b.other ≡ None) × IsChainIn b.one code.classes.items code.instructions.items) ⊎ HasOption b code
+    ((b.other ≡ None) × IsChainIn b.one code.classes.items code.instructions.items)
+    ⊎ HasOption b code
 
 -- each of them has the tables of the classes
-abbrev pub AreTabled : Branches → List Class → Type 0
+abbrev pub AreTabled : SequencePair → List Class → Type 0
 AreTabled b classes = AreTables classes b.one.tables.items
-    × ((c : Chain) → b.other ≡ Some c → AreTables classes c.tables.items)
+    × ((c : FixedSequence) → b.other ≡ Some c → AreTables classes c.tables.items)

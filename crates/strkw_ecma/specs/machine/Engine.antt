@@ -1,14 +1,14 @@
--- What an engine comes to on a text, whether it reads that off tables or rows of classes, and whether
--- it takes memory.
+-- What an engine comes to on a text, whether it reads that off tables or rows of classes, and
+-- whether it takes memory.
 use Rattle.std.specs.Prelude.{ℕ, Bool, true, false, not, ◌&&◌, ◌||◌, List, [], ◌∷◌, None, is_some}
 use Rattle.strkw_pattern.specs.Matcher.{outcome_of}
 use Rattle.strkw_pattern.specs.declared.engine.Outcome.{Outcome}
-use Rattle.strkw_ecma.specs.Tree.{differ}
-use Rattle.strkw_ecma.specs.Mirror.{along}
-use Rattle.strkw_ecma.specs.machine.Machine.{pattern_of}
-use Rattle.strkw_ecma.specs.machine.Search.{search_from}
-use Rattle.strkw_ecma.specs.machine.Seekers.{seeking_of, seekings}
-use Rattle.strkw_ecma.specs.machine.Seeking.{is_sought}
+use Rattle.strkw_charset.specs.Membership.{differ}
+use Rattle.strkw_regex_core.specs.Mirror.{along}
+use Rattle.strkw_regex_search.specs.machine.Machine.{pattern_of}
+use Rattle.strkw_regex_search.specs.machine.Search.{search_from}
+use Rattle.strkw_regex_search.specs.machine.OracleRunners.{seeking_of, seekings}
+use Rattle.strkw_regex_search.specs.machine.Seeking.{is_sought}
 use Rattle.strkw_ecma.specs.declared.engine.EcmaMatcher.{EcmaMatcher}
 use Rattle.strkw_ecma.specs.declared.finder.PartFinder.{PartFinder}
 use Rattle.strkw_ecma.specs.declared.finder.Search.{Search}

@@ -1,8 +1,8 @@
 -- How the classes of a chain are looked up.
 use Rattle.std.specs.Prelude.{◌≡◌, ℕ, ◌<◌, nat_lt, Bool, true, false, ◌&&◌, List, [], ◌∷◌, length}
 use Rattle.std.specs.Prelude.{get_or, slice_get, Option, Some}
-use Rattle.strkw_ecma.specs.machine.Machine.{class_reads}
-use Rattle.strkw_ecma.specs.declared.code.Class.{Class}
+use Rattle.strkw_regex_search.specs.machine.Machine.{class_reads}
+use Rattle.strkw_regex_search.specs.declared.code.Class.{Class}
 
 -- a text begins with a character of each of the classes of these numbers, one behind another
 abbrev pub begins_with : List Class → List ℕ → List ℕ → Bool

@@ -1,15 +1,15 @@
 -- Which patterns are taken, and what they come to.
-use Rattle.std.specs.Prelude.{ℕ, Bool, List, Option, Some, None, is_some}
+use Rattle.std.specs.Prelude.{ℕ, List, Option, Some, None}
 use Rattle.strkw_pattern.specs.Matcher.{outcome_of}
 use Rattle.strkw_pattern.specs.declared.engine.Outcome.{Outcome}
 use Rattle.strkw_pattern.specs.declared.engine.Outcome.TheVariants.{NoMatch}
-use Rattle.strkw_ecma.specs.Tree.{Pattern}
-use Rattle.strkw_ecma.specs.Syntax.{Disjunction}
-use Rattle.strkw_ecma.specs.machine.Makers.{trees}
-use Rattle.strkw_ecma.specs.machine.Reading.{read_pattern}
-use Rattle.strkw_ecma.specs.Front.{parts}
-use Rattle.strkw_ecma.specs.machine.Search.{are_parts_found}
-use Rattle.strkw_ecma.specs.Patterns.{pattern}
+use Rattle.strkw_regex_core.specs.Tree.{Pattern}
+use Rattle.strkw_regex_grammar.specs.Syntax.{Disjunction}
+use Rattle.strkw_regex_reader.specs.machine.Makers.{trees}
+use Rattle.strkw_regex_reader.specs.machine.Reading.{read_pattern}
+use Rattle.strkw_regex_core.specs.LeadingLookahead.{parts}
+use Rattle.strkw_regex_search.specs.machine.Search.{are_parts_found}
+use Rattle.strkw_regex_reader.specs.Patterns.{pattern}
 
 -- what the search of a pattern comes to
 abbrev pub search_outcome : Pattern → List ℕ → Outcome
@@ -18,10 +18,6 @@ search_outcome p text = outcome_of (are_parts_found (parts p) text)
 abbrev pub outcome_of_read : Option Disjunction → List ℕ → Outcome
 outcome_of_read None text = NoMatch
 outcome_of_read (Some d) text = search_outcome (pattern d) text
-
--- the builder's: of the text of a pattern
-abbrev pub takes_pattern : List ℕ → Bool
-takes_pattern source = is_some (read_pattern trees source)
 
 abbrev pub pattern_outcome : List ℕ → List ℕ → Outcome
 pattern_outcome source = outcome_of_read (read_pattern trees source)

@@ -2,7 +2,7 @@ use Rattle.std.proofs.Common.{rules, ◌≡◌, ◌↔◌, IsTrue, subst}
 use Rattle.std.specs.Prelude.{IfOk}
 use Rattle.std.specs.Str.{IsUtf8, chars}
 use Rattle.std.proofs.lemmas.Result.{IfOk-weaker}
-use Rattle.strkw_ecma.specs.Regex.{IsRegex}
+use Rattle.strkw_regex_grammar.specs.Regex.{IsRegex}
 use Rattle.strkw_c.proofs.StatusLemmas.{tells}
 use Rattle.strkw_c.proofs.companions.strkw_nonnull_is_regex.Goals as goal
 

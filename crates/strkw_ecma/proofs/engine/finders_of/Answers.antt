@@ -1,12 +1,13 @@
 use Rattle.std.proofs.Common.{◌&&◌, ◌||◌, not, sym, ap, ◌∙◌, arith}
 use Rattle.std.specs.Vec.Iter.{into_iter_items}
-use Rattle.strkw_ecma.specs.Glances.{are_told}
+use Rattle.strkw_regex_core.specs.OneCharLookahead.{are_told}
 use Rattle.strkw_ecma.specs.machine.Engine.{are_found_by}
-use Rattle.strkw_ecma.specs.machine.Marks.{is_unmarked}
-use Rattle.strkw_ecma.specs.machine.Passes.{are_passes_clean, are_passes_faced, are_passes_found, steps_of_passes, passes_of}
-use Rattle.strkw_ecma.specs.machine.Shape.{outline_pattern}
-use Rattle.strkw_ecma.proofs.Finders.{one_found, one_taken}
-use Rattle.strkw_ecma.proofs.Steps.{and_right}
+use Rattle.strkw_regex_core.specs.machine.Positions.{is_unmarked}
+use Rattle.strkw_regex_search.specs.machine.Passes.{are_passes_clean, are_passes_faced, are_passes_found, steps_of_passes, passes_of}
+use Rattle.strkw_regex_core.specs.machine.Shape.{outline_pattern}
+use Rattle.strkw_ecma.proofs.Finders.{one_found}
+use Rattle.strkw_regex_search.proofs.PassParts.{one_taken}
+use Rattle.strkw_charset.proofs.Booleans.{and_right}
 use Rattle.strkw_ecma.proofs.engine.finders_of.Goals as goal
 
 pub loop-pass-preserved : goal.loop-pass-preserved

@@ -1,8 +1,8 @@
 use Rattle.std.proofs.Common.{◌≡◌, ◌≤◌, ◌&&◌, true, ℕ, List, length}
 use Rattle.std.specs.Vec.Iter.{into_iter_items, into_iter_len}
-use Rattle.strkw_ecma.specs.Size.{max_steps}
+use Rattle.strkw_regex_core.specs.Size.{max_steps}
 use Rattle.strkw_ecma.specs.machine.Engine.{are_found_by}
-use Rattle.strkw_ecma.specs.machine.Passes.{are_passes_clean, are_passes_faced, are_passes_found, steps_of_passes, passes_of}
+use Rattle.strkw_regex_search.specs.machine.Passes.{are_passes_clean, are_passes_faced, are_passes_found, steps_of_passes, passes_of}
 use Rattle.strkw_ecma.proofs.engine.finders_of.Given as goal
 
 abbrev pub invariant-loop-pass : goal.invariant-loop-pass

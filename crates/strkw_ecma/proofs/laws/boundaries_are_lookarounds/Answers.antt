@@ -1,5 +1,5 @@
 use Rattle.std.proofs.Common.{true, false, slice_get}
-use Rattle.strkw_ecma.specs.Meaning.{before, is_word}
+use Rattle.strkw_regex_core.specs.Meaning.{before, is_word}
 use Rattle.strkw_ecma.proofs.Anchors.{beside_either, tests_differ, tests_agree}
 use Rattle.strkw_ecma.proofs.laws.boundaries_are_lookarounds.Goals as goal
 

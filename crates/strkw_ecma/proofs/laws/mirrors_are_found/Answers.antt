@@ -1,4 +1,4 @@
-use Rattle.strkw_ecma.proofs.Mirrors.{found_mirrored}
+use Rattle.strkw_regex_core.proofs.Mirrors.{found_mirrored}
 use Rattle.strkw_ecma.proofs.laws.mirrors_are_found.Goals as goal
 
 pub returns : goal.returns

@@ -1,5 +1,5 @@
 use Rattle.std.proofs.Common.{refl, arith}
-use Rattle.strkw_ecma.specs.Sets.{digits, white_space, word_characters}
+use Rattle.strkw_charset.specs.Sets.{digits, white_space, word_characters}
 use Rattle.strkw_ecma.proofs.Complements.{pairs, complement}
 use Rattle.strkw_ecma.proofs.laws.negative_sets_are_complements.Goals as goal
 

@@ -1,6 +1,6 @@
 use Rattle.std.proofs.Common.{◌≡◌, List, length, replicate}
 use Rattle.std.specs.Str.{IsAscii}
-use Rattle.strkw_ecma.specs.declared.code.Class.{Class}
+use Rattle.strkw_regex_search.specs.declared.code.Class.{Class}
 use Rattle.strkw_ecma.specs.machine.Links.{AreTables, begins_with}
 use Rattle.strkw_ecma.proofs.links.are_of.Given as goal
 

@@ -1,6 +1,6 @@
 use Rattle.std.proofs.Common.{◌≡◌, true, List, length}
 use Rattle.std.specs.Str.{IsAscii}
-use Rattle.strkw_ecma.specs.declared.code.Class.{Class}
+use Rattle.strkw_regex_search.specs.declared.code.Class.{Class}
 use Rattle.strkw_ecma.specs.machine.Links.{are_below, AreTables, begins_with}
 use Rattle.strkw_ecma.proofs.links.begin_with.Given as goal
 

@@ -1,5 +1,5 @@
 use Rattle.std.proofs.Common.{◌≡◌, true, List, drop, length}
-use Rattle.strkw_ecma.specs.declared.code.Class.{Class}
+use Rattle.strkw_regex_search.specs.declared.code.Class.{Class}
 use Rattle.strkw_ecma.specs.machine.Links.{are_below, AreTables, begins_with}
 use Rattle.strkw_ecma.proofs.links.begin_with_each.Given as goal
 

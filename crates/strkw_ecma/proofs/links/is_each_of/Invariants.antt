@@ -1,5 +1,5 @@
 use Rattle.std.proofs.Common.{◌≡◌, List, drop, length, replicate}
-use Rattle.strkw_ecma.specs.declared.code.Class.{Class}
+use Rattle.strkw_regex_search.specs.declared.code.Class.{Class}
 use Rattle.strkw_ecma.specs.machine.Links.{AreTables, begins_with}
 use Rattle.strkw_ecma.proofs.links.is_each_of.Given as goal
 

@@ -1,5 +1,5 @@
 use Rattle.std.proofs.Common.{◌≡◌, ◌-◌, drop, replicate}
-use Rattle.strkw_ecma.specs.machine.Along.{left_of}
+use Rattle.strkw_regex_search.specs.machine.Along.{left_of}
 use Rattle.strkw_ecma.specs.machine.Links.{begins_with}
 use Rattle.strkw_ecma.proofs.links.read_some.Given as goal
 

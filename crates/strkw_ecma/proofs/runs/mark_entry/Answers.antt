@@ -1,5 +1,5 @@
 use Rattle.std.proofs.Common.{◌≡◌, ◌+◌, ◌*◌, ℕ, get_or, refl, ap, arith}
-use Rattle.strkw_ecma.proofs.Rows.{marked_same}
+use Rattle.strkw_ecma.proofs.DfaRows.{marked_same}
 use Rattle.strkw_ecma.proofs.runs.mark_entry.Goals as goal
 
 pub returns-then-from-next : goal.returns-then-from-next

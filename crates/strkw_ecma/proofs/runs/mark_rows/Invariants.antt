@@ -1,4 +1,4 @@
-use Rattle.strkw_ecma.specs.machine.Table.{SayTheSame}
+use Rattle.strkw_ecma.specs.machine.Dfa.{SayTheSame}
 use Rattle.strkw_ecma.proofs.runs.mark_rows.Given as goal
 
 abbrev pub invariant-loop-number : goal.invariant-loop-number

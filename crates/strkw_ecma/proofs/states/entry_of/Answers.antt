@@ -1,9 +1,9 @@
 use Rattle.std.proofs.Common.{◌≡◌, ◌+◌, ◌*◌, ◌<◌, ℕ, List, Some, slice_get, refl, sym, subst, ◌∙◌}
 use Rattle.std.proofs.lemmas.Option.{slice_get_read, IfSome_then}
-use Rattle.strkw_ecma.specs.machine.Machine.{pattern_of}
-use Rattle.strkw_ecma.specs.machine.Table.{next_row, IsEntry}
+use Rattle.strkw_regex_search.specs.machine.Machine.{pattern_of}
+use Rattle.strkw_ecma.specs.machine.Dfa.{next_row, IsEntry}
 use Rattle.strkw_ecma.specs.declared.states.State.{State}
-use Rattle.strkw_ecma.proofs.Rows.{same_state, entry_finds, entry_leads}
+use Rattle.strkw_ecma.proofs.DfaRows.{same_state, entry_finds, entry_leads}
 use Rattle.strkw_ecma.proofs.states.entry_of.Goals as goal
 
 pub returns-then-is_found-clause-right : goal.returns-then-is_found-clause-right

@@ -1,7 +1,7 @@
 use Rattle.std.proofs.Common.{rules, ◌≡◌, Some, slice_get, refl}
 use Rattle.std.proofs.lemmas.Option.{slice_get_read}
-use Rattle.strkw_ecma.specs.machine.Machine.{pattern_of}
-use Rattle.strkw_ecma.proofs.Rows.{state_added}
+use Rattle.strkw_regex_search.specs.machine.Machine.{pattern_of}
+use Rattle.strkw_ecma.proofs.DfaRows.{state_added}
 use Rattle.strkw_ecma.proofs.states.number_of.Goals as goal
 
 pub returns-then-is_that_of-clause-right : goal.returns-then-is_that_of-clause-right

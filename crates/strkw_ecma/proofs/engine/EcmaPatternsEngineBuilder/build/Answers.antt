@@ -1,9 +1,9 @@
 use Rattle.std.proofs.Common.{sym, subst, Some, None, option_map}
 use Rattle.std.specs.Str.{chars}
-use Rattle.strkw_ecma.specs.Patterns.{pattern}
-use Rattle.strkw_ecma.specs.machine.Passes.{ComesTo}
-use Rattle.strkw_ecma.specs.machine.Makers.{trees}
-use Rattle.strkw_ecma.specs.machine.Reading.{read_pattern}
+use Rattle.strkw_regex_reader.specs.Patterns.{pattern}
+use Rattle.strkw_regex_search.specs.machine.Passes.{ComesTo}
+use Rattle.strkw_regex_reader.specs.machine.Makers.{trees}
+use Rattle.strkw_regex_reader.specs.machine.Reading.{read_pattern}
 use Rattle.strkw_ecma.proofs.Taken.{read_clean, read_faced, read_small, read_outcome, comes_some}
 use Rattle.strkw_ecma.proofs.engine.EcmaPatternsEngineBuilder.build.Goals as goal
 

@@ -1,10 +1,10 @@
 use Rattle.std.proofs.Common.{Bool, List, None, sym, ap, ◌∙◌}
 use Rattle.std.specs.Str.{chars}
-use Rattle.strkw_ecma.specs.Mirror.{along}
-use Rattle.strkw_ecma.specs.declared.code.Class.{Class}
+use Rattle.strkw_regex_core.specs.Mirror.{along}
+use Rattle.strkw_regex_search.specs.declared.code.Class.{Class}
 use Rattle.strkw_ecma.specs.machine.Chains.{are_chained}
-use Rattle.strkw_ecma.specs.machine.Machine.{pattern_of}
-use Rattle.strkw_ecma.specs.machine.Search.{search_from}
+use Rattle.strkw_regex_search.specs.machine.Machine.{pattern_of}
+use Rattle.strkw_regex_search.specs.machine.Search.{search_from}
 use Rattle.strkw_ecma.proofs.finder.Finder.ask_chains.Goals as goal
 
 pub returns-then-is_ascii : goal.returns-then-is_ascii

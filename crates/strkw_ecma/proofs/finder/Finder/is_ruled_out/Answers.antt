@@ -1,6 +1,6 @@
 use Rattle.std.proofs.Common.{◌∙◌, sym}
 use Rattle.std.specs.Str.{chars}
-use Rattle.strkw_ecma.specs.machine.Machine.{pattern_of}
+use Rattle.strkw_regex_search.specs.machine.Machine.{pattern_of}
 use Rattle.strkw_ecma.proofs.Needs.{needed_ascii, ruled_out}
 use Rattle.strkw_ecma.proofs.finder.Finder.is_ruled_out.Goals as goal
 

@@ -1,16 +1,16 @@
 use Rattle.std.proofs.Common.{◌≡◌, true, false, List, [], ◌∷◌, length, ap, arith}
-use Rattle.strkw_ecma.specs.Glances.{are_told}
-use Rattle.strkw_ecma.specs.machine.Asides.{AreAsides}
-use Rattle.strkw_ecma.specs.machine.Seekers.{quests}
-use Rattle.strkw_ecma.specs.machine.Shape.{outline_pattern}
-use Rattle.strkw_ecma.specs.declared.asides.Aside.{Aside}
-use Rattle.strkw_ecma.proofs.Seekings.{found_plain, found_told, are_fit, set_fit}
-use Rattle.strkw_ecma.proofs.Sizes.{told_steps, far_steps}
-use Rattle.strkw_ecma.proofs.Unmarked.{clean_unmarked}
+use Rattle.strkw_regex_core.specs.OneCharLookahead.{are_told}
+use Rattle.strkw_regex_search.specs.machine.OraclePasses.{AreAsides}
+use Rattle.strkw_regex_search.specs.machine.OracleRunners.{quests}
+use Rattle.strkw_regex_core.specs.machine.Shape.{outline_pattern}
+use Rattle.strkw_regex_search.specs.declared.oracle_passes.OraclePass.{OraclePass}
+use Rattle.strkw_regex_search.proofs.OracleCode.{found_plain, found_told, are_fit, set_fit}
+use Rattle.strkw_regex_core.proofs.Sizes.{told_steps, far_steps}
+use Rattle.strkw_regex_core.proofs.Unmarked.{clean_unmarked}
 use Rattle.strkw_ecma.proofs.finder.Search.of.Goals as goal
 
 -- where there are no asides, there are no quests
-no_asides : (xs : List Aside) → xs ≡ [] → AreAsides [] (quests xs) []
+no_asides : (xs : List OraclePass) → xs ≡ [] → AreAsides [] (quests xs) []
 no_asides [] none = tt
 no_asides (x ∷ xs) none = absurd (omega (arith, ap length none))
 

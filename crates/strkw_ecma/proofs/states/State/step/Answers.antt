@@ -1,6 +1,6 @@
 use Rattle.std.proofs.Common.{◌≡◌, Bool, List, true, ap, ◌∙◌}
-use Rattle.strkw_ecma.specs.machine.Marks.{leaves, step, mark_classes}
-use Rattle.strkw_ecma.specs.machine.Machine.{pattern_of}
+use Rattle.strkw_regex_core.specs.machine.Positions.{leaves, step, mark_classes}
+use Rattle.strkw_regex_search.specs.machine.Machine.{pattern_of}
 use Rattle.strkw_ecma.proofs.states.State.step.Goals as goal
 
 pub returns-clause-found : goal.returns-clause-found

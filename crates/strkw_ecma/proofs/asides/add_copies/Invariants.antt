@@ -1,7 +1,0 @@
-use Rattle.std.proofs.Common.{◌≡◌, ◌++◌}
-use Rattle.strkw_ecma.specs.Program.{concat_copies}
-use Rattle.strkw_ecma.proofs.asides.add_copies.Given as goal
-
--- so many copies are behind those that were there
-abbrev pub invariant-loop : goal.invariant-loop
-invariant-loop l = l.told.items ≡ l.fn.told.items ++ concat_copies l.counter l.more

@@ -1,6 +1,0 @@
-use Rattle.std.proofs.Common.{refl}
-use Rattle.strkw_ecma.proofs.Written.{turn_written}
-use Rattle.strkw_ecma.proofs.code.Code.turn.Goals as goal
-
-pub returns : goal.returns
-returns c = turn_written _ _ _ refl c.in_ok-push.ensures.items

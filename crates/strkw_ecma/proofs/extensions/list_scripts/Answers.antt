@@ -1,8 +1,0 @@
-use Rattle.std.proofs.Common.{refl}
-use Rattle.ucd_script.specs.ScriptExtensionRows.{script_extension_rows}
-use Rattle.strkw_ecma.specs.machine.ScriptLists.{place_in, with_lists, lists, list_scripts}
-use Rattle.strkw_ecma.proofs.extensions.list_scripts.Goals as goal
-
-pub returns : goal.returns
-unfolding script_extension_rows list_scripts lists with_lists place_in
-returns c = refl

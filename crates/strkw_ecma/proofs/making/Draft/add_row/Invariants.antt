@@ -1,9 +1,0 @@
-use Rattle.strkw_ecma.specs.machine.Machine.{pattern_of}
-use Rattle.strkw_ecma.specs.machine.Table.{AreEntries}
-use Rattle.strkw_ecma.proofs.making.Draft.add_row.Given as goal
-
--- the entries so far are right
-abbrev pub invariant-loop-column : goal.invariant-loop-column
-invariant-loop-column l =
-    AreEntries (pattern_of l.program) l.samples l.initial.self.entries.items l.self.entries.items l.initial.self.states.items l.self.states.items l.number
-    l.column

@@ -1,7 +1,0 @@
-use Rattle.std.proofs.Common.{◌≡◌, ◌<◌, ℕ, get_or}
-use Rattle.strkw_ecma.specs.machine.Columns.{answers}
-use Rattle.strkw_ecma.proofs.making.are_keys.Given as goal
-
-abbrev pub invariant-loop-k : goal.invariant-loop-k
-invariant-loop-k l =
-    (k : ℕ) → k < l.k → get_or l.sampled.columns.keys.items k 0 ≡ answers 0 l.sampled.columns.classes.items (get_or l.sampled.samples.items k 0)

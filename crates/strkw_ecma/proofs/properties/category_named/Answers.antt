@@ -1,7 +1,0 @@
-use Rattle.ucd_sets.specs.Names.{category_names}
-use Rattle.strkw_ecma.specs.Properties.{category_named}
-use Rattle.strkw_ecma.proofs.properties.category_named.Goals as goal
-
-pub returns : goal.returns
-unfolding category_names category_named
-returns c = c.value_named.ensures

@@ -1,0 +1,16 @@
+pub mod PatternEquivalences
+pub mod Options
+pub mod Steps
+pub mod Sizes
+pub mod Behind
+pub mod Search
+pub mod Shapes
+pub mod Fronts
+pub mod Mirrors
+pub mod TextEnds
+pub mod MirrorEquivalence
+pub mod Unmarked
+pub mod Depths
+pub mod LookaheadTruth
+pub mod Widths
+pub mod Backwards

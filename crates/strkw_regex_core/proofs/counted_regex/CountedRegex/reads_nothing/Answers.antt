@@ -1,0 +1,11 @@
+use Rattle.std.proofs.Common.{◌∙◌, ap}
+use Rattle.strkw_regex_core.specs.machine.Shape.{outline_pattern, quantifier_of}
+use Rattle.strkw_regex_core.proofs.Fronts.{reads_of_times}
+use Rattle.strkw_regex_core.proofs.Shapes.{outlined-Repeated}
+use Rattle.strkw_regex_core.proofs.counted_regex.CountedRegex.reads_nothing.Goals as goal
+
+pub returns-in-Repeated : goal.returns-in-Repeated
+returns-in-Repeated c =
+    let whole = ap outline_pattern c.in-Repeated.is ∙ outlined-Repeated c.in-Repeated.field-0 c.in-Repeated.field-1 in
+    c.is_nothing.ensures
+    ∙ rw whole (reads_of_times (quantifier_of c.in-Repeated.field-0) (outline_pattern c.in-Repeated.field-1.value))

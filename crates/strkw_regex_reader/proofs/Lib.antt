@@ -1,0 +1,11 @@
+pub mod FormedTerms
+pub mod PartImages
+pub mod BetweenTerms
+pub mod Digits
+pub mod ClassReadings
+pub mod ReaderComplete
+pub mod ClassSpelled
+pub mod ReaderSound
+pub mod Formed
+pub mod ReaderRefinement
+pub mod Refused

@@ -1,0 +1,10 @@
+//! Reads the text of a pattern of ECMA-262 as a pattern with counts, or tells why it is not taken.
+#![tactic(auto)]
+
+mod classes;
+mod counts;
+mod outlines;
+pub mod reader;
+pub mod refusals;
+
+pub use refusals::PatternRefusal;

@@ -1,0 +1,2 @@
+-- How the code reads and searches.
+pub mod machine
