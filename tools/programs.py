@@ -23,8 +23,8 @@ but `name` may be left out:
     leaves        names to bytes: the files that the run adds or changes; all others have to be there as before
 
 Bytes are a string, as UTF-8 (`"a\\r\\n\\u0000"`), or an array of strings, single bytes and bytes some times over
-(`["a,", 0xff, "\\n", { times = 9, of = "b\\n" }]`). In `errors` the word `{program}` is the program's own name.
-The table `[every]` has keys for all rows of a file; a row's own tables are added to its. The last line is
+(`["a,", 0xff, "\\n", { times = 9, of = "b\\n" }]`). In `output` and `errors` the word `{program}` is the program's own
+name. The table `[every]` has keys for all rows of a file; a row's own tables are added to its. The last line is
 `N passed, M failed`; the gate counts it.
 """
 import os
@@ -210,15 +210,14 @@ def left_in(folder):
 
 def wrongs(row, words):
     """What differs from the row."""
-    program = [word for word in words if isinstance(word, Path)][-1]
-    errors_wanted = bytes_of(row.errors).replace(b"{program}", program.name.encode())
+    program = [word for word in words if isinstance(word, Path)][-1].name.encode()
+    output, errors = (bytes_of(value).replace(b"{program}", program) for value in (row.output, row.errors))
     with tempfile.TemporaryDirectory() as name:
         folder = Path(name)
         lay_out(row, folder)
         left = {**left_in(folder), **{name: bytes_of(value) for name, value in row.leaves.items()}}
-        status, written, errors = ran(row, words, folder)
-        found = {"status": status, "output": written, "errors": errors, "files": left_in(folder)}
-    wanted = {"status": row.status, "output": bytes_of(row.output), "errors": errors_wanted, "files": left}
+        found = dict(zip(("status", "output", "errors"), ran(row, words, folder)), files=left_in(folder))
+    wanted = {"status": row.status, "output": output, "errors": errors, "files": left}
     return [f"{what} {str(found[what])[:400]}, wanted {str(wanted[what])[:400]}"
             for what in wanted if found[what] != wanted[what]]
 
