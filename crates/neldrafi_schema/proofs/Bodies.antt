@@ -1,0 +1,60 @@
+-- What was read of a schema, by its value.
+use Rattle.std.proofs.Common.{◌≡◌, ◌∙◌, ℕ, List, [], ◌∷◌, Bool, true, false, Option, Some, None, refl, ap, sym, subst}
+use Rattle.serde_json.specs.Data.{Data, Members, null, boolean, number, string, array, object}
+use Rattle.serde_json.specs.Find.{as_bool, as_object}
+use Rattle.strkw_pattern.specs.declared.engine.Outcome.{Outcome}
+use Rattle.strkw_keywords.specs.Meanings.{Lists}
+use Rattle.strkw_keywords.specs.Object.{Settings}
+use Rattle.neldrafi_schema.specs.declared.node.Body.{Body as CompiledBody}
+use Rattle.neldrafi_schema.specs.declared.node.Body.TheVariants as body
+use Rattle.neldrafi_schema.specs.declared.problem.Problem.{Problem}
+use Rattle.neldrafi_schema.specs.Paths.{Path}
+use Rattle.neldrafi_schema.specs.Reading.{BodySays, Numbered}
+use Rattle.neldrafi_schema.specs.Schemas.{always, never, neither, wrong_type}
+use Rattle.neldrafi_schema.specs.machine.Problems.{Notes}
+use Rattle.neldrafi_schema.specs.machine.Said.{Reads}
+use Rattle.neldrafi_schema.proofs.Keeping.{nothing_noted}
+
+pub is_boolean : (d : Data) (b : Bool) → as_bool d ≡ Some b → d ≡ boolean b
+is_boolean null b e = cc
+is_boolean (boolean a) b e = let same : a ≡ b = cc in ap boolean same
+is_boolean (number x) b e = cc
+is_boolean (string t) b e = cc
+is_boolean (array ds) b e = cc
+is_boolean (object ms) b e = cc
+
+pub is_object : (d : Data) (ms : Members) → as_object d ≡ Some ms → d ≡ object ms
+is_object null ms e = cc
+is_object (boolean a) ms e = cc
+is_object (number x) ms e = cc
+is_object (string t) ms e = cc
+is_object (array ds) ms e = cc
+is_object (object others) ms e = let same : others ≡ ms = cc in ap object same
+
+neither_says : (numbered : Numbered) (s : Settings) (document : Data) (path : Path) (d : Data) → as_bool d ≡ None → as_object d ≡ None
+    → BodySays numbered s document path d neither
+neither_says numbered s document path null e f = refl
+neither_says numbered s document path (boolean a) e f = cc
+neither_says numbered s document path (number x) e f = refl
+neither_says numbered s document path (string t) e f = refl
+neither_says numbered s document path (array ds) e f = refl
+neither_says numbered s document path (object ms) e f = cc
+
+module _ {E : Type 0} (outcome : E → List ℕ → Outcome) (lists : Lists) (s : Settings) (document : Data) (path : Path) (d : Data) (paths : List Path) (old : Option Problem) where
+  abbrev pub ReadsBody : Option Problem → CompiledBody E → Type 0
+  ReadsBody = Reads outcome lists (λ numbered said. BodySays numbered s document path d said) path paths old
+
+  pub true_reads : as_bool d ≡ Some true → ReadsBody old body.Always
+  true_reads e = record { said = always; means = λ all extends. rw (is_boolean d true e) refl; notes = nothing_noted old; same = refl; ready = λ all extends. tt }
+
+  pub false_reads : as_bool d ≡ Some false → ReadsBody old body.Never
+  false_reads e = record { said = never; means = λ all extends. rw (is_boolean d false e) refl; notes = nothing_noted old; same = refl; ready = λ all extends. tt }
+
+  pub other_reads : (new : Option Problem) → as_bool d ≡ None → as_object d ≡ None → Notes ((path, wrong_type) ∷ []) old new → ReadsBody new body.Always
+  other_reads new no_bool no_object notes = record {
+    said = neither;
+    means = λ all extends. neither_says _ s document path d no_bool no_object;
+    notes = notes;
+    same = refl;
+    ready = λ all extends. tt;
+  }

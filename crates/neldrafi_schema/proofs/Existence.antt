@@ -1,0 +1,76 @@
+-- It cannot be that an instance has no list of errors.
+use Rattle.std.proofs.Common.{◌≡◌, ◌↔◌, ℕ, zero, suc, ◌+◌, ◌≤◌, List, [], ◌∷◌, ◌++◌, length, refl, Bool, true, false, Some, None, Option, map, IsTrue, arith}
+use Rattle.std.proofs.lemmas.Bool.{false≢true}
+use Rattle.std.specs.Prelude.{MatchOption, slice_get}
+use Rattle.std.specs.List.{AllByRecursion}
+use Rattle.serde_json.specs.Data.{Data}
+use Rattle.serde_json.specs.Find.{get, as_str}
+use Rattle.strkw_report.specs.declared.error.Site.{Site}
+use Rattle.strkw_keywords.specs.Laws.{ReportsAreThere}
+use Rattle.strkw_keywords.specs.Meanings.{Lists}
+use Rattle.neldrafi_schema.specs.Errors.{Error, of_text}
+use Rattle.neldrafi_schema.specs.Schemas.{Keyword, types, required, negation, properties, reference, string_keyword, malformed, Body, always, never, keywords, neither, Schema}
+use Rattle.neldrafi_schema.specs.Meaning.{Below, KeywordReports, KeywordsReport, PropertiesReport, SchemaReports, Reports, property_below}
+use Rattle.neldrafi_schema.specs.machine.Ready.{steps_for}
+use Rattle.neldrafi_schema.specs.machine.Sound.{AreSound, IsSoundBody}
+use Rattle.neldrafi_schema.specs.Refusals.{ends, schema_ends}
+use Rattle.neldrafi_schema.proofs.Fitting.{ArePropertiesFine, Fits, IsBodyFine, IsKeywordFine, body_fits}
+
+-- it cannot be that there is none
+abbrev pub ThereIs : (List Error → Type 0) → Type 0
+ThereIs P = ((es : List Error) → P es → ⊥) → ⊥
+
+here : (P : List Error → Type 0) (es : List Error) → P es → ThereIs P
+here P es p none = none es p
+
+-- a thing holds or does not
+decides : (X : Type 0) → ((b : Bool) → (IsTrue b ↔ X) → ⊥) → ⊥
+decides X none = none false ((λ t. absurd (false≢true t)), (λ x. absurd (none true ((λ _. x), (λ _. refl)))))
+
+module _ (some : ReportsAreThere) (lists : Lists) (below : Below) (Fine : ℕ → Data → Type 0) (is : (n : ℕ) (d : Data) (site : Site) → Fine n d → ThereIs (below n d site)) where
+  value_is : (o : Option Data) (n : ℕ) (site : Site) → MatchOption o (Unit {0}) (λ v. Fine n v)
+      → ThereIs (λ es. MatchOption o (es ≡ []) (λ v. below n v site es))
+  value_is None n site fine none = none [] refl
+  value_is (Some v) n site fine none = is n v site fine none
+
+  properties_are : (ps : List (List ℕ × ℕ)) (d : Data) (site : Site) → ArePropertiesFine Fine d ps → ThereIs (PropertiesReport below ps d site)
+  properties_are [] d site fine none = none [] refl
+  properties_are (k ∷ ps) d site fine none = value_is (get k.0 d) k.1 (property_below site k.0) fine.0
+      (λ es p. properties_are ps d site fine.1 (λ fs q. none (es ++ fs) (es, fs, p, q, refl)))
+
+  keyword_is : (location : List ℕ) (k : Keyword) (d : Data) (site : Site) → IsKeywordFine Fine d k → ThereIs (KeywordReports below lists location k d site)
+  keyword_is location (types ts) d site fine none = none _ refl
+  keyword_is location (required names) d site fine none = none _ refl
+  keyword_is location (negation n schema) d site fine none = decides _ (λ v p. none _ (v, p, refl))
+  keyword_is location (properties ps) d site fine none = properties_are ps d site fine none
+  keyword_is location (reference n) d site fine none = is n d _ fine none
+  keyword_is location (string_keyword asserted) d site fine none =
+      some asserted lists site (as_str d) (λ rs p. none (map of_text rs) (rs, p, refl))
+  keyword_is location (malformed name why) d site fine none = fine
+
+  keywords_are : (location : List ℕ) (ks : List Keyword) (d : Data) (site : Site) → AllByRecursion (IsKeywordFine Fine d) ks
+      → ThereIs (KeywordsReport below lists location ks d site)
+  keywords_are location [] d site fine none = none [] refl
+  keywords_are location (k ∷ ks) d site fine none = keyword_is location k d site fine.0
+      (λ es p. keywords_are location ks d site fine.1 (λ fs q. none (es ++ fs) (es, fs, p, q, refl)))
+
+  pub schema_is : (location : List ℕ) (body : Body) (d : Data) (site : Site) → IsBodyFine Fine d body → ThereIs (SchemaReports below lists location body d site)
+  schema_is location always d site fine none = none [] refl
+  schema_is location never d site fine none = none _ refl
+  schema_is location (keywords ks) d site fine none = keywords_are location ks d site fine none
+  schema_is location neither d site fine none = fine
+
+module _ (there : ReportsAreThere) (schemas : List Schema) (lists : Lists) (sound : AreSound schemas) where
+  module _ (k s : ℕ) (d : Data) (fits : steps_for (length schemas) d (suc s) ≤ suc k)
+      (is : (n : ℕ) (d : Data) (site : Site) → Fits schemas sound k n d → ThereIs (Reports schemas lists k n d site)) where
+    there_fits : (o : Option Schema) (site : Site) → ((t : Schema) → o ≡ Some t → IsSoundBody (length schemas) t.body) → schema_ends (ends schemas s) o ≡ true
+        → ThereIs (λ es. MatchOption o ⊥ (λ t. SchemaReports (Reports schemas lists k) lists t.location t.body d site es))
+    there_fits None site good e none = false≢true e
+    there_fits (Some t) site good e none =
+        schema_is there lists (Reports schemas lists k) (Fits schemas sound k) is t.location t.body d site (body_fits schemas sound k s d fits t.body (good t refl) e) none
+
+  pub reports_are : (k n : ℕ) (d : Data) (site : Site) → Fits schemas sound k n d → ThereIs (Reports schemas lists k n d site)
+  unfolding Reports ends
+  reports_are k n d site (zero, e, fits) none = false≢true e
+  reports_are zero n d site (suc s, e, fits) none = absurd (omega arith)
+  reports_are (suc k) n d site (suc s, e, fits) none = there_fits k s d fits (reports_are k) (slice_get schemas n) site (sound.each n) e none

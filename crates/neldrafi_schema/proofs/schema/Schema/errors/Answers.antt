@@ -1,0 +1,25 @@
+use Rattle.std.proofs.Common.{rules, ◌≡◌, ◌∙◌, [], subst, sym}
+use Rattle.serde_json.specs.View.{view}
+use Rattle.strkw_report.specs.declared.error.Site.{Site}
+use Rattle.neldrafi_schema.specs.Meaning.{root_site}
+use Rattle.neldrafi_schema.specs.machine.Ready.{RestsOn}
+use Rattle.neldrafi_schema.proofs.Walks.{ready_alike, whole_errors}
+use Rattle.neldrafi_schema.proofs.schema.Schema.errors.Goals as goal
+
+pub push_errors-requires-clause-tests : goal.push_errors-requires-clause-tests
+push_errors-requires-clause-tests g c = ready_alike g.E.RegexEngine.outcome c.args.self.now.nodes.items _ _ c.deref.result.now
+    (λ v rests p x e. subst (RestsOn g.E.RegexEngine.outcome _) (sym e) rests) c.deref.ensures.value c.requires
+
+pub push_errors-requires-clause-finds : goal.push_errors-requires-clause-finds
+push_errors-requires-clause-finds g c = ready_alike g.E.RegexEngine.outcome c.args.self.now.nodes.items _ _ c.deref.result.now
+    (λ v rests p x site e. subst (RestsOn g.E.RegexEngine.outcome _) (sym e) rests) c.deref.ensures.value c.requires
+
+pub returns : goal.returns
+returns g c =
+    let site : Site = record { evaluation = c.root.result; instance = c.root-2.result } in
+    let root : site ≡ root_site = search rules in
+    let none : c.new-errors.result.items ≡ [] = search rules in
+    whole_errors g.E.RegexEngine.outcome c.args.self.now.nodes.items c.deref.result.now c.deref.ensures.value c.len.result
+    (c.len.ensures ∙ c.args.self.now.nodes.ok.0) _ (view c.args.instance.now)
+    site c.new-errors.result.items c.push_errors.new.errors.items root none
+    (c.in_ok-push_errors.ensures _ (λ p x r answered. answered) (λ p x at r answered. answered))

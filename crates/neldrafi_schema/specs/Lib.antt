@@ -1,0 +1,10 @@
+pub mod Types
+pub mod Schemas
+pub mod Errors
+pub mod Paths
+pub mod References
+pub mod Settings
+pub mod Reading
+pub mod Meaning
+pub mod Refusals
+pub mod machine

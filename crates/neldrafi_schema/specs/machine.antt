@@ -1,0 +1,10 @@
+-- How the code has schemas, places, problems and errors: what its contracts name, and what is proved from it.
+pub mod Compiled
+pub mod Ready
+pub mod Closures
+pub mod Found
+pub mod Places
+pub mod Problems
+pub mod Said
+pub mod Words
+pub mod Sound

@@ -1,0 +1,48 @@
+-- When the calls of a compiled schema may be made.
+use Rattle.std.specs.Prelude.{◌≡◌, ◌<◌, ◌≤◌, ◌+◌, ◌*◌, ℕ, suc, List, true, length}
+use Rattle.std.specs.List.{AllByRecursion}
+use Rattle.serde_json.specs.Data.{Data, depth}
+use Rattle.strkw_pattern.specs.declared.engine.Outcome.{Outcome}
+use Rattle.strkw_keywords.specs.Demands.{IsInUse}
+use Rattle.strkw_keywords.specs.Meanings.{Lists}
+use Rattle.strkw_keywords.specs.Validators.{demands_of}
+use Rattle.strkw_keywords.specs.declared.validator.Validator.{Validator}
+use Rattle.neldrafi_schema.specs.declared.node.Node.{Node}
+use Rattle.neldrafi_schema.specs.declared.node.Body.{Body}
+use Rattle.neldrafi_schema.specs.declared.node.Body.TheVariants.{Always, Never, Keywords}
+use Rattle.neldrafi_schema.specs.declared.node.Keyword.{Keyword}
+use Rattle.neldrafi_schema.specs.declared.node.Keyword.TheVariants.{Types, Required, Not}
+use Rattle.neldrafi_schema.specs.declared.node.Keyword.TheVariants.{Properties, Ref, Text}
+use Rattle.neldrafi_schema.specs.Refusals.{ends}
+use Rattle.neldrafi_schema.specs.machine.Compiled.{schemas_of}
+
+-- the rows on which a string keyword rests are there
+abbrev pub RestsOn : {E : Type 0} → (E → List ℕ → Outcome) → Lists → Validator E → Type 0
+RestsOn outcome lists v = IsInUse (demands_of outcome v) lists
+
+module _ {E : Type 0} (MayCall : Validator E → Type 0) (count : ℕ) where
+  -- the schemas of properties are there, and a string keyword may be called
+  abbrev pub IsKeywordReady : Keyword E → Type 0
+  IsKeywordReady (Types ts) = Unit {0}
+  IsKeywordReady (Required names) = Unit {0}
+  IsKeywordReady (Not n schema) = Unit {0}
+  IsKeywordReady (Properties ps) = AllByRecursion (λ p. p.schema < count) ps.items
+  IsKeywordReady (Ref n) = Unit {0}
+  IsKeywordReady (Text v) = MayCall v
+
+  abbrev pub IsBodyReady : Body E → Type 0
+  IsBodyReady Always = Unit {0}
+  IsBodyReady Never = Unit {0}
+  IsBodyReady (Keywords ks) = AllByRecursion IsKeywordReady ks.items
+
+-- there is a root, ways that do not enter an instance end, and each keyword is ready
+pub record IsReady {E : Type 0} (outcome : E → List ℕ → Outcome) (MayCall : Validator E → Type 0)
+    (nodes : List (Node E)) : Type 0 where
+  pub some : 0 < length nodes
+  pub end : (n : ℕ) → n < length nodes
+      → ends (schemas_of outcome nodes) (length nodes) n ≡ true
+  pub each : AllByRecursion (λ node. IsBodyReady MayCall (length nodes) node.body) nodes
+
+-- how many steps are taken at most for an instance, where so many are left that do not enter it
+abbrev pub steps_for : ℕ → Data → ℕ → ℕ
+steps_for count d steps = depth d * suc count + steps

@@ -1,0 +1,74 @@
+//! What a schema is compiled under.
+
+ghost use Rattle.std.specs.Prelude.{◌≡◌, IfOk};
+ghost use Rattle.strkw_keywords.specs.Handed.{settings_of};
+ghost use Rattle.neldrafi_schema.specs.Paths.{Path, location_of};
+ghost use Rattle.neldrafi_schema.specs.Settings.{config_settings, keyword_settings};
+
+use std::alloc::{AllocError, Global};
+use strkw_keywords::{Checks, Context, Keyword, Options};
+use strkw_pattern::EngineBuilder;
+use strkw_report::{Draft, Location};
+
+/// What a schema is compiled under.
+#[derive(Drop)]
+pub struct Config<'a, B> {
+    /// Whether formats are checked. `None` leaves it to the draft, and draft 2020-12 does not check them.
+    pub validate_formats: Option<bool>,
+    /// Whether a checked format that is not known adds nothing. If not, it is refused.
+    pub ignore_unknown_formats: bool,
+    /// The caller's own checks.
+    pub checks: Checks<'a>,
+    /// What builds the engines of patterns that are not literal.
+    pub builder: &'a B,
+}
+
+impl<'a, B> Config<'a, B> {
+    /// Formats as the draft has them, unknown ones ignored, and no checks but the built-in ones. What is to be otherwise
+    /// is set in the fields. It takes no memory.
+    pub fn new(builder: &'a B) -> Config<'a, B> {
+        Config {
+            validate_formats: None,
+            ignore_unknown_formats: true,
+            checks: Checks {
+                formats: &[],
+                media_types: &[],
+                codecs: &[],
+            },
+            builder,
+        }
+    }
+}
+
+impl<'a, B: EngineBuilder> Config<'a, B> {
+    // What one string keyword of the schema at a location is compiled under: every other is left out.
+    pub(crate) fn context(
+        &self,
+        location: &Location,
+        keyword: Keyword,
+    ) -> Result<Context<'a, B>, AllocError>
+        ensures settings { (path : Path) → location.now ≡ location_of path
+            → IfOk result (λ ctx. settings_of B.takes B.outcome admits accepts is_encoding decoding
+            ctx ≡ keyword_settings (config_settings B.takes B.outcome admits accepts is_encoding
+            decoding self.now) path keyword) }
+    {
+        let mut options = Options::default();
+        options.validate_formats = self.validate_formats;
+        options.ignore_unknown_formats = self.ignore_unknown_formats;
+        let mut overridden = [true; 7];
+        overridden[keyword.place()] = false;
+        options.overridden = overridden;
+        Ok(Context {
+            draft: Draft::Draft202012,
+            location: location.clone()?,
+            absolute: None,
+            options,
+            checks: Checks {
+                formats: self.checks.formats,
+                media_types: self.checks.media_types,
+                codecs: self.checks.codecs,
+            },
+            builder: self.builder,
+        })
+    }
+}

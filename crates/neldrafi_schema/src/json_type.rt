@@ -1,0 +1,95 @@
+//! The types of JSON values, as `type` names them.
+
+ghost use Rattle.std.specs.Prelude.{◌≡◌};
+ghost use Rattle.serde_json.specs.View.{view};
+ghost use Rattle.neldrafi_schema.specs.Types.{is_of_type, type_name, type_named};
+
+use serde_json::Value;
+
+/// A type of JSON values, as `type` names it (Validation, section 6.1.1).
+#[derive(Debug, Clone, Copy, PartialEq, Eq)]
+pub enum JsonType {
+    /// `null`.
+    Null,
+    /// `boolean`.
+    Boolean,
+    /// `integer`: the numbers with no fractional part, `1.0` among them.
+    Integer,
+    /// `number`.
+    Number,
+    /// `string`.
+    String,
+    /// `array`.
+    Array,
+    /// `object`.
+    Object,
+}
+
+impl JsonType {
+    /// The type of this name.
+    pub fn by_name(name: &str) -> Option<JsonType>
+        ensures { result ≡ type_named name.now }
+    {
+        if name == "null" {
+            Some(JsonType::Null)
+        } else if name == "boolean" {
+            Some(JsonType::Boolean)
+        } else if name == "integer" {
+            Some(JsonType::Integer)
+        } else if name == "number" {
+            Some(JsonType::Number)
+        } else if name == "string" {
+            Some(JsonType::String)
+        } else if name == "array" {
+            Some(JsonType::Array)
+        } else if name == "object" {
+            Some(JsonType::Object)
+        } else {
+            None
+        }
+    }
+
+    /// Its name.
+    pub fn as_str(self) -> &'static str
+        ensures { result.now ≡ type_name self }
+    {
+        match self {
+            JsonType::Null => "null",
+            JsonType::Boolean => "boolean",
+            JsonType::Integer => "integer",
+            JsonType::Number => "number",
+            JsonType::String => "string",
+            JsonType::Array => "array",
+            JsonType::Object => "object",
+        }
+    }
+
+    /// Whether a value is of the type.
+    pub fn admits(self, value: &Value) -> bool
+        ensures { result ≡ is_of_type self (view value.now) }
+    {
+        match self {
+            JsonType::Null => value.is_null(),
+            JsonType::Boolean => value.is_boolean(),
+            JsonType::Integer => is_whole(value),
+            JsonType::Number => value.is_number(),
+            JsonType::String => value.is_string(),
+            JsonType::Array => value.is_array(),
+            JsonType::Object => value.is_object(),
+        }
+    }
+}
+
+// Whether a value is a number with no fractional part.
+fn is_whole(value: &Value) -> bool
+    ensures { result ≡ is_of_type JsonType.Integer (view value.now) }
+{
+    match value.as_number() {
+        None => false,
+        Some(number) if number.is_f64() => match number.as_f64() {
+            Some(x) => x.trunc() == x,
+            None => false,
+        },
+        Some(_) => true,
+    }
+}

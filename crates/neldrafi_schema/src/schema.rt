@@ -1,0 +1,181 @@
+//! A compiled schema, and its three calls on an instance.
+
+ghost use Rattle.std.specs.Prelude.{◌↔◌, ◌≡◌, ◌⊎◌, ◌++◌, ◌∷◌, ℕ, IfErr, IfOk, IsTrue, List, OnErr, OnOk, []};
+ghost use Rattle.serde_json.specs.View.{view};
+ghost use Rattle.strkw_keywords.specs.Handed.{lists_of};
+ghost use Rattle.neldrafi_schema.specs.Errors.{Error};
+ghost use Rattle.neldrafi_schema.specs.machine.Closures.{AreTextErrors, IsTextVerdict};
+ghost use Rattle.neldrafi_schema.specs.machine.Found.{Appended, IsAnswer, errors_of};
+ghost use Rattle.neldrafi_schema.specs.Meaning.{HasErrors};
+ghost use Rattle.neldrafi_schema.specs.machine.Problems.{reason_of};
+ghost use Rattle.neldrafi_schema.specs.machine.Ready.{RestsOn};
+ghost use Rattle.neldrafi_schema.specs.machine.Words.{IsCompiled, lists_in, schemas_in};
+ghost use Rattle.neldrafi_schema.specs.Refusals.{IsRefused, IsSaid};
+ghost use Rattle.neldrafi_schema.specs.Schemas.{out_of_memory};
+ghost use Rattle.neldrafi_schema.specs.Settings.{config_settings};
+
+use crate::collecting::{Collector, Visit};
+use crate::compile::read_document;
+use crate::config::Config;
+use crate::error::{Fault, ValidationError};
+use crate::node::Node;
+use crate::refusal::SchemaError;
+use crate::validity::Checker;
+use serde_json::Value;
+use std::alloc::{AllocError, Global};
+use strkw_keywords::{Checks, ContentCodec, Format, MediaTypeCheck, Validate, Validator};
+use strkw_pattern::{EngineBuilder, RegexEngine};
+use strkw_report::{Location, Site, ValidationError as TextError};
+
+/// A schema document, compiled. Its calls rest on one meaning: the errors that an instance has by the document.
+#[derive(Drop)]
+pub struct Schema<'a, E> {
+    pub(crate) nodes: Vec<Node<E>>,
+    pub(crate) checks: Checks<'a>,
+}
+
+impl<'a, E: RegexEngine> Schema<'a, E> {
+    /// Compiles a document of draft 2020-12.
+    ///
+    /// It is refused at the first value that has no meaning, or the first reference that comes to no end without
+    /// entering the instance, whichever comes first in the order of the document: an object stands before its members,
+    /// and these by the bytes of their keys. `Memory` comes where it is out of memory, at the root.
+    pub fn compile<B: EngineBuilder<Engine = E>>(
+        alloc: Global,
+        document: &Value,
+        config: &Config<'a, B>,
+    ) -> Result<Schema<'a, E>, SchemaError>
+        ensures said { let s = config_settings B.takes B.outcome admits accepts is_encoding decoding
+            config.now in
+            IfOk result (λ schema. IsSaid s (view document.now)
+            (schemas_in E.outcome schema)) }
+        ensures ready { IfOk result (λ schema. IsCompiled E.outcome
+            (lists_in admits accepts is_encoding decoding schema) schema) }
+        ensures lists { IfOk result (λ schema.
+            lists_in admits accepts is_encoding decoding schema
+            ≡ lists_of admits accepts is_encoding decoding config.now.checks) }
+        ensures refused { let s = config_settings B.takes B.outcome admits accepts is_encoding
+            decoding config.now in
+            IfErr result (λ e. (reason_of e.kind ≡ out_of_memory)
+            ⊎ IsRefused s (view document.now) (reason_of e.kind) e.location) }
+    {
+        let nodes = read_document(alloc, config, document)?;
+        Ok(Schema {
+            nodes,
+            checks: Checks {
+                formats: config.checks.formats,
+                media_types: config.checks.media_types,
+                codecs: config.checks.codecs,
+            },
+        })
+    }
+
+    /// Whether an instance has no errors. The only error is out of memory.
+    pub fn is_valid(&self, alloc: Global, instance: &Value) -> Result<bool, AllocError>
+        requires { IsCompiled E.outcome
+            (lists_in admits accepts is_encoding decoding self.now) self.now }
+        ensures { IfOk result (λ b. IsTrue b ↔ HasErrors
+            (schemas_in E.outcome self.now)
+            (lists_in admits accepts is_encoding decoding self.now)
+            (view instance.now) []) }
+    {
+        let checks = &self.checks;
+        let text_accepts = |validator: &Validator<E>, instance: &Value| -> Result<bool, AllocError>
+            requires { RestsOn E.outcome
+                (lists_of admits accepts is_encoding decoding checks.now) validator.now }
+            ensures { IsTextVerdict E.outcome
+                (lists_of admits accepts is_encoding decoding checks.entry.now)
+                validator.now instance.now result }
+        { validator.is_valid(alloc, instance, checks) };
+        let checker = Checker {
+            nodes: &self.nodes,
+            text_accepts: &text_accepts,
+        };
+        checker.accepts(alloc, 0, self.nodes.len(), instance)
+    }
+
+    /// `Ok` where an instance has no errors.
+    ///
+    /// Errors: `Fault::Invalid` of the first of the errors that `collect_errors` appends, and `Fault::Memory`.
+    pub fn validate(&self, alloc: Global, instance: &Value) -> Result<(), Fault>
+        requires { IsCompiled E.outcome
+            (lists_in admits accepts is_encoding decoding self.now) self.now }
+        ensures { IsAnswer (HasErrors (schemas_in E.outcome self.now)
+            (lists_in admits accepts is_encoding decoding self.now)
+            (view instance.now)) result }
+    {
+        match self.errors(alloc, instance)?.into_iter().next() {
+            None => Ok(()),
+            Some(error) => Err(Fault::Invalid(error)),
+        }
+    }
+
+    /// Appends the errors of an instance, in the order of the keywords: that of the document's members. The only error
+    /// is out of memory; the vector then holds what it held.
+    pub fn collect_errors(
+        &self,
+        alloc: Global,
+        instance: &Value,
+        errors: &mut Vec<ValidationError>,
+    ) -> Result<(), AllocError>
+        requires { IsCompiled E.outcome
+            (lists_in admits accepts is_encoding decoding self.now) self.now }
+        ensures ok { OnOk result (Appended (HasErrors
+            (schemas_in E.outcome self.now)
+            (lists_in admits accepts is_encoding decoding self.now)
+            (view instance.now)) errors.old.items errors.new.items) }
+        ensures err { OnErr result (errors.new.items ≡ errors.old.items) }
+    {
+        errors.append(&mut self.errors(alloc, instance)?)
+    }
+
+    // The errors of an instance.
+    fn errors(&self, alloc: Global, instance: &Value) -> Result<Vec<ValidationError>, AllocError>
+        requires { IsCompiled E.outcome
+            (lists_in admits accepts is_encoding decoding self.now) self.now }
+        ensures { IfOk result (λ es. HasErrors (schemas_in E.outcome self.now)
+            (lists_in admits accepts is_encoding decoding self.now)
+            (view instance.now) (errors_of es.items)) }
+    {
+        let checks = &self.checks;
+        let text_accepts = |validator: &Validator<E>, instance: &Value| -> Result<bool, AllocError>
+            requires { RestsOn E.outcome
+                (lists_of admits accepts is_encoding decoding checks.now) validator.now }
+            ensures { IsTextVerdict E.outcome
+                (lists_of admits accepts is_encoding decoding checks.entry.now)
+                validator.now instance.now result }
+        { validator.is_valid(alloc, instance, checks) };
+        let text_errors = |validator: &Validator<E>, instance: &Value, site: &Site| -> Result<
+            Vec<TextError>,
+            AllocError,
+        >
+            requires { RestsOn E.outcome
+                (lists_of admits accepts is_encoding decoding checks.now) validator.now }
+            ensures { AreTextErrors E.outcome
+                (lists_of admits accepts is_encoding decoding checks.entry.now)
+                validator.now instance.now site.now result }
+        {
+            let mut errors = Vec::new(alloc);
+            validator.collect_errors(alloc, instance, site, checks, &mut errors)?;
+            Ok(errors)
+        };
+        let collector = Collector {
+            checker: Checker {
+                nodes: &self.nodes,
+                text_accepts: &text_accepts,
+            },
+            text_errors: &text_errors,
+        };
+        let site = Site {
+            evaluation: Location::root(alloc),
+            instance: Location::root(alloc),
+        };
+        let visit = Visit {
+            instance,
+            site: &site,
+        };
+        let mut errors = Vec::new(alloc);
+        collector.push_errors(alloc, 0, self.nodes.len(), &visit, &mut errors)?;
+        Ok(errors)
+    }
+}
