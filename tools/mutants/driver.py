@@ -69,14 +69,12 @@ def write_table(found):
     TABLE.write_text("".join(f"{line}\n" for line in [heading, *(lines[name] for name in names if name in lines)]))
 
 
-def tell(found):
-    """Prints the changes that no row notices. Answers how many there are."""
-    missed = 0
-    for mutant, (sections, _) in found:
-        if not sections and not mutant.reason:
-            missed += 1
-            print(f"{mutant.name}: NOT NOTICED: {mutant.wrong}", flush=True)
-    return missed
+def is_missed(mutant, sections):
+    """Whether a row should notice a change, and none does: then it is told at once."""
+    if sections or mutant.reason:
+        return False
+    print(f"{mutant.name}: NOT NOTICED: {mutant.wrong}", flush=True)
+    return True
 
 
 def main():
@@ -88,13 +86,13 @@ def main():
         mutants = rules.sample(options.crates, options.seed, options.sample)
     with tempfile.TemporaryDirectory() as folder:
         paths, mutants = built(mutants, folder)
-    found = []
-    for judged in table.judged(paths, mutants, options.most):
-        found.append(judged)
+    found, missed = [], 0
+    for mutant, (sections, is_all) in table.judged(paths, mutants, options.most):
+        found.append((mutant, (sections, is_all)))
+        missed += is_missed(mutant, sections)
         if options.table and len(found) % 20 == 0:
             write_table(lines_of_table(found))
     if options.table:
         write_table(lines_of_table(found))
-    missed = tell(found)
     print(f"{len(found) - missed} noticed, {missed} missed")
     return 1 if missed or not found else 0

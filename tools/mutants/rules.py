@@ -94,7 +94,9 @@ def other_texts(source, at):
     token, before, after = source.tokens[at], source.tokens[at - 1], source.tokens[at + 1]
     is_between_blanks = source.text[token.start - 1].isspace() and source.text[token.end].isspace()
     if token.text in OTHERS and (is_between_blanks or token.kind == "word"):
-        return [OTHERS[token.text]]
+        # Behind a cast `<` begins the arguments of a type.
+        is_behind_cast = OTHERS[token.text] == "<" and source.tokens[at - 2].text == "as"
+        return [] if is_behind_cast else [OTHERS[token.text]]
     if token.text in METHODS and before.text == "." and after.text == "(":
         return [METHODS[token.text]]
     if token.text == "!" and after.kind in ("word", "sign") and before.kind == "sign" and after.start == token.end:
@@ -136,12 +138,17 @@ def arms_changed(source, at):
         at = source.closing.get(at, at) + 1
     arms = list(arms_between(source, at + 1, source.closing[at]))
     takes_all = bool(arms) and source.tokens[arms[-1][0]].text == "_"
-    for (first, arrow, last), (_, next_arrow, next_last) in zip(arms, arms[1:]):
+    for (first, arrow, last), (next_first, next_arrow, next_last) in zip(arms, arms[1:]):
         if takes_all:
             yield source.tokens[first].start, source.tokens[last].end, ""
-        else:
+        elif not names(source.tokens[next_first:next_arrow]) & names(source.tokens[next_arrow:next_last + 1]):
             yield (source.tokens[arrow].end, source.tokens[last].end,
                    source.text[source.tokens[next_arrow].end:source.tokens[next_last].end])
+
+
+def names(tokens):
+    """The words that may name what a pattern binds."""
+    return {token.text for token in tokens if token.kind == "word" and token.text[0].islower()}
 
 
 def arms_between(source, at, end):

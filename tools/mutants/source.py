@@ -191,10 +191,11 @@ class Source:
                 kept.append(token.text)
         return " ".join(kept)
 
-    def reaches(self, name):
-        """Whether it imports a name, or writes it behind a path."""
-        return (any(path.split("::")[-1].strip() == name for path in self.imports())
-                or re.search(rf"\w::{name}\b", self.text) is not None)
+    def reaches(self, name, crate=""):
+        """Whether it imports a name, or writes it behind a path, and one into a crate where that is said."""
+        written = rf"\b{crate}(::\w+)*::{name}\b" if crate else rf"\w::{name}\b"
+        return (any(path.startswith(crate) and path.split("::")[-1].strip() == name for path in self.imports())
+                or re.search(written, self.text) is not None)
 
     def imports(self):
         """The imported paths, one for each name."""

@@ -56,10 +56,21 @@ def renamed(text, names):
     return "".join(parts)
 
 
-def module_of(file, crate):
-    """The path of a file's module."""
+def crate_of(file):
+    """The folder of a file's crate."""
+    return next(folder.parent for folder in file.parents if folder.name == "src")
+
+
+def is_other(file, other):
+    """Whether two files are of two crates."""
+    return crate_of(file) != crate_of(other)
+
+
+def module_of(file):
+    """The path of a file's module, from the name of its crate."""
+    crate = crate_of(file)
     parts = file.relative_to(crate / "src").with_suffix("").parts
-    return "::".join(["crate", *(part for part in parts if part not in ("lib", "main"))])
+    return "::".join([crate.name, *(part for part in parts if part not in ("lib", "main"))])
 
 
 class Change:
@@ -103,25 +114,30 @@ class Change:
             for owner in (item.owner, "Self"):
                 self.names[f"{owner}::{item.name}"] = f"{owner}::{self.double(item.name)}"
         else:
-            self.names[item.name] = f"{module_of(file, self.crate)}::{self.double(item.name)}"
+            self.names[item.name] = f"{module_of(file)}::{self.double(item.name)}"
+
+    def names_in(self, file):
+        """By which names the changed items go in a file."""
+        own = f"{crate_of(file).name}::"
+        return {name: re.sub(f"^{own}", "crate::", other) for name, other in self.names.items()}
 
     def named_in(self, file, source):
-        """An expression for the changed constants that a file can name: its own, those that it imports, and, in any
-        crate, those of types."""
+        """An expression for the changed constants that a file can name: its own, those that it imports, and those of
+        types."""
         names = set()
         for (home, _), (item, _) in self.constants.items():
             if item.name not in source.text:
                 continue
             if item.around:
                 names |= {f"{item.owner}::{item.name}"} | ({f"Self::{item.name}"} if home == file else set())
-            elif home == file or self.crate in file.parents and source.reaches(item.name):
+            elif home == file or source.reaches(item.name, crate_of(home).name if is_other(home, file) else ""):
                 names.add(item.name)
         return re.compile(rf"\b({'|'.join(names)})\b" if names else "(?!)")
 
     def spread(self):
         """Takes the constants and functions that name a changed constant."""
-        is_of_type = any(item.around for item, _ in self.constants.values())
-        files = (self.crate.parent if is_of_type else self.crate).glob("**/src/**/*.rt")
+        is_public = any(item.around or text.startswith("pub ") for item, text in self.constants.values())
+        files = (self.crate.parent if is_public else self.crate).glob("**/src/**/*.rt")
         sources = {file: source_of(text_of(file)) for file in files}
         found = [None]
         while found:
@@ -143,7 +159,7 @@ class Doubles:
     """What is put into a file: texts by the places at which they go in, and where each change then stands."""
 
     def __init__(self, file):
-        self.source = source_of(text_of(file))
+        self.file, self.source = file, source_of(text_of(file))
         self.put, self.imports = defaultdict(list), set()
 
     def add_constant(self, key, item, text, change):
@@ -151,7 +167,8 @@ class Doubles:
         own = self.source.items().get(key)
         if own is None:
             raise Broken(f"adds the constant {item.name}")
-        others = {name: other for name, other in change.names.items() if name.split("::")[-1] != item.name}
+        others = {name: other for name, other in change.names_in(self.file).items()
+                  if name.split("::")[-1] != item.name}
         text = re.sub(rf"\b{item.name}\b", change.double(item.name), renamed(text, others), count=1)
         self.put[own.end].append((change.switch, f"\n\n{text}"))
 
@@ -159,7 +176,7 @@ class Doubles:
         """Puts the double of a function behind it, and the switch into it."""
         own = self.source.items()[key] if is_changed else None
         head = re.sub(rf"\bfn {item.name}\b", f"fn {change.double(item.name)}", text, count=1)
-        text = renamed(re.sub(r"^pub(\(.*?\))? ", "", head), change.names)
+        text = renamed(re.sub(r"^pub(\(.*?\))? ", "", head), change.names_in(self.file))
         is_of_trait = re.match(r"impl\b.*? for ", item.around, re.S)
         place = own.end if own else len(self.source.text)
         if item.around.startswith("trait"):

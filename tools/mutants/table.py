@@ -66,11 +66,14 @@ def switch_object(folder):
 
 
 def builds(folder):
-    """The programs of a copy of the sources."""
+    """The programs of a copy of the sources. What is refused of any of them is told in one."""
     made = switch_object(folder)
     with ThreadPoolExecutor(SIDE_BY_SIDE) as pool:
-        paths = pool.map(lambda name: unproved.build(name, folder / "crates", [made]), PROGRAMS)
-        return dict(zip(PROGRAMS, paths))
+        tries = {name: pool.submit(unproved.build, name, folder / "crates", [made]) for name in PROGRAMS}
+    why = [str(it.exception()) for it in tries.values() if isinstance(it.exception(), unproved.Refused)]
+    if why:
+        raise unproved.Refused("\n".join(why))
+    return {name: it.result() for name, it in tries.items()}
 
 
 @functools.cache

@@ -172,6 +172,9 @@ def bytes_in_fields():
             yield of_file(columns, f"a,b\n{c}x,x{c}\n", keep_going=True)
             yield of_file(columns, f'a,b\n"x{c}y","{c}"\n"{c}x","x{c}"\n', keep_going=True)
             yield of_file({"columns": {"1": {"maxLength": 1}}}, f"{c}x\nx{c}\n", header=False, keep_going=True)
+            # The bytes of a record are looked at by sixteen.
+            long = ["x" * before + c + "x" * behind for before, behind in ((0, 16), (9, 30), (15, 16), (16, 0), (31, 0))]
+            yield of_file({"columns": {"a": {"maxLength": 60}}}, "\n".join(["a", *long, ""]), keep_going=True)
 
 
 def open_quotes():

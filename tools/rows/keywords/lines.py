@@ -97,6 +97,13 @@ def lines_after_lines():
         yield lined((few, 17), other, without, few, other)
         for value in (None, parsed("[]"), parsed("{}"), "x"):
             yield lined(every, {**few, name: value}, other, {**every, name: value}, without, few)
+    # A schema object is kept behind 16 lines that share it. It means another thing under the terms of the next line.
+    for schema, more, times in product(
+            ({"format": "date"}, {"format": "x"}, {"contentMediaType": "application/json"}),
+            ({"draft": 202012}, {"validate_formats": False}, {"ignore_unknown_formats": False}), (15, 16, 17)):
+        one = {"draft": 7, "schema": schema, "instance": "x"}
+        yield lined((one, times), {**one, **more}, one)
+        yield lined(({**one, **more}, times), one, {**one, **more})
     for first, second in product(({}, {"validate_formats": True}, {"validate_formats": False},
                                   {"ignore_unknown_formats": False}, {"fold": True}), repeat=2):
         lines = [{"draft": draft, "schema": {"format": "date", "maxLength": 9}, "instance": "x", **more}
