@@ -28,7 +28,7 @@ use Rattle.strkw_ecma.proofs.Linked.{begins_long}
 use Rattle.strkw_ecma.proofs.Leads.{are_straight, Leads, leads_behind, straight_parts, read_by_program}
 use Rattle.strkw_charset.proofs.Booleans.{and_true, and_left, and_right}
 use Rattle.strkw_regex_search.proofs.Written.{more_instructions, within_more}
-use Rattle.strkw_ecma.proofs.ChainLeads.{there, goes_once, goes_at_most_once, inner, inner_leads, straight_append, read_straight, inner_straight}
+use Rattle.strkw_ecma.proofs.ChainLeads.{goes_once, goes_at_most_once, inner, inner_leads, straight_append, read_straight, inner_straight}
 use Rattle.strkw_ecma.proofs.ChainLeads.{first_place, last_place, numbers_long, same_truth}
 
 -- of instructions that are a chain

@@ -1,10 +1,11 @@
 -- No class of a pattern that is read bears a mark, nor does one of its parts.
 use Rattle.std.proofs.Common.{◌≡◌, Bool, true, false, List, [], ◌∷◌, ◌++◌, refl, if◌then◌else◌}
 use Rattle.strkw_regex_core.specs.Tree.{start, Pattern, empty, class, look, cat, alt, star, plus, lookbehind, lookahead}
-use Rattle.strkw_regex_grammar.specs.Syntax.{Disjunction, only, either, Alternative, nothing, more, Term, at_start, at_end, at_boundary}
-use Rattle.strkw_regex_grammar.specs.Syntax.{at_no_boundary, looks_behind, looks_ahead, once, quantified, Atom, plain, escaped, control_escape}
-use Rattle.strkw_regex_grammar.specs.Syntax.{set_escape, coded, property_escape, dot, bracketed, group}
-use Rattle.strkw_regex_reader.specs.Patterns.{pattern, alternative_pattern, term_pattern, atom_pattern, times}
+use Rattle.strkw_regex_grammar.specs.Regex.{Disjunction, only, either, Alternative, nothing, more, Term, asserted, looks_behind}
+use Rattle.strkw_regex_grammar.specs.Regex.{looks_ahead, once, quantified, Atom, single, Leaf, plain, dot, escaped}
+use Rattle.strkw_regex_grammar.specs.Regex.{control_escape, set_escape, coded, property_escape, numbered, called, bracketed, group}
+use Rattle.strkw_regex_grammar.specs.declared.tokens.Edge.TheVariants as edges
+use Rattle.strkw_regex_reader.specs.Patterns.{pattern, alternative_pattern, term_pattern, atom_pattern, leaf_pattern, times}
 use Rattle.strkw_regex_core.specs.LeadingLookahead.{Part, lead, is_apart_behind, part_of, fronts, rest, parts}
 use Rattle.strkw_regex_core.specs.Mirror.{target}
 use Rattle.strkw_regex_core.specs.machine.Positions.{is_unmarked}
@@ -12,8 +13,21 @@ use Rattle.strkw_regex_search.specs.machine.Search.{are_parts_clean}
 use Rattle.strkw_charset.proofs.Booleans.{and_true, and_left, and_right}
 use Rattle.strkw_regex_core.proofs.Unmarked.{unmarked_times, rest_unmarked, sought_unmarked}
 
+-- the pattern of a leaf has no marks
+unmarked_leaf : (l : Leaf) → is_unmarked (leaf_pattern l) ≡ true
+unmarked_leaf (plain c) = refl
+unmarked_leaf dot = refl
+unmarked_leaf (escaped c) = refl
+unmarked_leaf (control_escape c) = refl
+unmarked_leaf (set_escape c) = refl
+unmarked_leaf (coded k) = refl
+unmarked_leaf (property_escape n e) = refl
+unmarked_leaf (numbered ds) = refl
+unmarked_leaf (called n) = refl
+unmarked_leaf (bracketed n r e) = refl
+
 mutual
-  -- the pattern of a tree has no marks
+  -- the pattern of a tree has none
   pub unmarked_pattern : (d : Disjunction) → is_unmarked (pattern d) ≡ true
   unmarked_pattern (only a) = unmarked_alternative a
   unmarked_pattern (either d a) = and_true _ _ (unmarked_pattern d) (unmarked_alternative a)
@@ -25,25 +39,18 @@ mutual
 
   -- nor has that of a term
   unmarked_term : (t : Term) → is_unmarked (term_pattern t) ≡ true
-  unmarked_term at_start = refl
-  unmarked_term at_end = refl
+  unmarked_term (asserted edges.Start) = refl
+  unmarked_term (asserted edges.End) = refl
+  unmarked_term (asserted edges.Boundary) = refl
+  unmarked_term (asserted edges.NoBoundary) = refl
   unmarked_term (looks_behind n d) = unmarked_pattern d
   unmarked_term (looks_ahead n d) = unmarked_pattern d
   unmarked_term (once a) = unmarked_atom a
-  unmarked_term at_boundary = refl
-  unmarked_term at_no_boundary = refl
   unmarked_term (quantified a q g) = unmarked_times (times q) (atom_pattern a) (unmarked_atom a)
 
   -- nor has that of an atom
   unmarked_atom : (a : Atom) → is_unmarked (atom_pattern a) ≡ true
-  unmarked_atom (plain c) = refl
-  unmarked_atom (escaped c) = refl
-  unmarked_atom (control_escape c) = refl
-  unmarked_atom (set_escape c) = refl
-  unmarked_atom (coded d) = refl
-  unmarked_atom (property_escape n e) = refl
-  unmarked_atom dot = refl
-  unmarked_atom (bracketed n r e) = refl
+  unmarked_atom (single l) = unmarked_leaf l
   unmarked_atom (group g d) = unmarked_pattern d
 
 -- parts one behind another have none where none of them has

@@ -8,6 +8,7 @@ pub mod Linked
 pub mod Chains
 pub mod Chained
 pub mod Finders
+pub mod Made
 pub mod Exact
 pub mod Taken
 pub mod EquivalentChars
@@ -16,4 +17,3 @@ pub mod Tables
 pub mod Complements
 pub mod Anchors
 pub mod DfaRows
-pub mod RegexTaken

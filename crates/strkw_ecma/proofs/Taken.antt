@@ -1,6 +1,6 @@
 -- What the code looks for of a pattern comes to what is defined for its parts.
 use Rattle.std.proofs.Common.{◌≡◌, ◌↔◌, ℕ, ◌<◌, ◌≤◌, nat_le, Bool, true, false, not, ◌&&◌, ◌||◌, List, [], ◌∷◌, Vec, Global, Option, Some, None}
-use Rattle.std.proofs.Common.{is_some, option_map, refl, sym, ap, subst, ◌∙◌, arith, le-leb}
+use Rattle.std.proofs.Common.{is_some, IfSome, refl, sym, ap, subst, ◌∙◌, arith, le-leb}
 use Rattle.std.proofs.lemmas.Bool.{lt-leb}
 use Rattle.std.proofs.Math.Path.{fun_ext}
 use Rattle.strkw_pattern.specs.Matcher.{outcome_of}
@@ -9,14 +9,12 @@ use Rattle.strkw_charset.specs.Membership.{differ}
 use Rattle.strkw_regex_core.specs.Meaning.{Found}
 use Rattle.strkw_regex_core.specs.OneCharLookahead.{are_told}
 use Rattle.strkw_regex_core.specs.Size.{max_steps}
-use Rattle.strkw_regex_grammar.specs.Syntax.{Disjunction}
-use Rattle.strkw_regex_reader.specs.Patterns.{pattern}
 use Rattle.strkw_regex_core.specs.Mirror.{mirror_if, along, is_backward, target, sought_in}
 use Rattle.strkw_regex_core.specs.LeadingLookahead.{Part, parts, steps_of_parts}
 use Rattle.strkw_regex_core.specs.machine.Positions.{is_unmarked}
 use Rattle.strkw_regex_core.specs.machine.Sizes.{cap_steps}
-use Rattle.strkw_regex_reader.specs.machine.Reading.{keep_small, when}
-use Rattle.strkw_regex_reader.specs.machine.Makers.{patterns}
+use Rattle.strkw_regex_reader.specs.machine.Building.{when}
+use Rattle.strkw_regex_reader.specs.machine.Reading.{keep_small}
 use Rattle.strkw_regex_search.specs.machine.Search.{found_in, search, are_parts_found, are_parts_clean}
 use Rattle.strkw_ecma.specs.machine.Outcomes.{outcome_of_read}
 use Rattle.strkw_ecma.specs.machine.Engine.{are_found_by, engine_outcome}
@@ -28,7 +26,7 @@ use Rattle.strkw_regex_search.specs.declared.passes.Pass.{Pass as CodePass}
 use Rattle.strkw_regex_search.proofs.Answers.{same_answer}
 use Rattle.strkw_regex_search.proofs.FoundIn.{found_in_right}
 use Rattle.strkw_charset.proofs.Booleans.{and_true, and_left, and_right}
-use Rattle.strkw_ecma.proofs.Clean.{unmarked_pattern, parts_clean}
+use Rattle.strkw_ecma.proofs.Clean.{parts_clean}
 
 -- both of two are the same where each is
 both_same : (a b c d : Bool) → a ≡ c → b ≡ d → (a && b) ≡ (c && d)
@@ -102,54 +100,53 @@ found_same (x ∷ xs) (a ∷ us) text u c =
     (found_same xs us text u.1 (and_right (is_unmarked (target a.pattern)) _ c))
 
 -- a pattern that is small is taken
-taken_so : (p : Pattern) → steps_of_parts (parts p) ≤ max_steps → keep_small patterns (Some p) ≡ Some p
+taken_so : (p : Pattern) → steps_of_parts (parts p) ≤ max_steps → keep_small (Some p) ≡ Some p
 taken_so p keep_small = ap (λ (b : Bool). when b (Some p)) (le-leb (steps_of_parts (parts p)) max_steps keep_small)
 
 -- and one that is not small is not
-not_small : (p : Pattern) → nat_le (steps_of_parts (parts p)) max_steps ≡ false → keep_small patterns (Some p) ≡ None
+not_small : (p : Pattern) → nat_le (steps_of_parts (parts p)) max_steps ≡ false → keep_small (Some p) ≡ None
 not_small p large = ap (λ (b : Bool). when b (Some p)) large
 
 module _ (v : Vec CodePass Global) (p : Pattern) (are : ArePasses (passes_of v.items) (parts p)) where
   -- what is looked for of a pattern that is taken
   pub comes_to : (s : ℕ) → s ≡ cap_steps (steps_of_passes (passes_of v.items)) → s ≤ max_steps
-      → ComesTo (Some v) (keep_small patterns (Some p))
+      → ComesTo (Some v) (keep_small (Some p))
   comes_to s is h =
       let keep_small : steps_of_parts (parts p) ≤ max_steps = omega (arith, is, h, steps_same (passes_of v.items) (parts p) are) in
       subst (ComesTo (Some v)) (sym (taken_so p keep_small)) record { passes = are; small = keep_small }
 
   -- nothing is, where it is not small
-  pub none_small : (s : ℕ) → s ≡ cap_steps (steps_of_passes (passes_of v.items)) → max_steps < s → ComesTo None (keep_small patterns (Some p))
+  pub none_small : (s : ℕ) → s ≡ cap_steps (steps_of_passes (passes_of v.items)) → max_steps < s → ComesTo None (keep_small (Some p))
   none_small s is h =
       let large : max_steps < steps_of_parts (parts p) = omega (arith, is, h, steps_same (passes_of v.items) (parts p) are) in
       subst (ComesTo None) (sym (not_small p (lt-leb (steps_of_parts (parts p)) max_steps large))) tt
 
--- what is looked for of the pattern of a tree that is read
+-- what is looked for of a pattern that is read
 module _ (v : Vec CodePass Global) where
-  -- has no marks
-  pub read_clean : (o : Option Disjunction) → ComesTo (Some v) (option_map pattern o) → are_passes_clean (passes_of v.items) ≡ true
-  read_clean None u = absurd u
-  read_clean (Some d) u = clean_same _ _ u.passes ∙ parts_clean (pattern d) (unmarked_pattern d)
+  -- has no marks, where that has none
+  pub read_clean : (o : Option Pattern) → IfSome o (λ p. is_unmarked p ≡ true) → ComesTo (Some v) o → are_passes_clean (passes_of v.items) ≡ true
+  read_clean None c u = absurd u
+  read_clean (Some p) c u = clean_same _ _ u.passes ∙ parts_clean p c
 
   -- is looked for from the end only where it is told from there
-  pub read_faced : (o : Option Disjunction) → ComesTo (Some v) (option_map pattern o) → are_passes_faced (passes_of v.items) ≡ true
+  pub read_faced : (o : Option Pattern) → ComesTo (Some v) o → are_passes_faced (passes_of v.items) ≡ true
   read_faced None u = absurd u
-  read_faced (Some d) u = all_faced _ _ u.passes
+  read_faced (Some p) u = all_faced _ _ u.passes
 
   -- is small
-  pub read_small : (o : Option Disjunction) → ComesTo (Some v) (option_map pattern o) → steps_of_passes (passes_of v.items) ≤ max_steps
+  pub read_small : (o : Option Pattern) → ComesTo (Some v) o → steps_of_passes (passes_of v.items) ≤ max_steps
   read_small None u = absurd u
-  read_small (Some d) u = omega (arith, steps_same _ _ u.passes, u.small)
+  read_small (Some p) u = omega (arith, steps_same _ _ u.passes, u.small)
 
   -- and an engine of it comes to what is defined for it
   pub read_outcome : (e : EcmaMatcher) → ((text : List ℕ) → are_found_by e.parts.items text ≡ are_passes_found (passes_of v.items) text)
-      → (o : Option Disjunction) → ComesTo (Some v) (option_map pattern o) → engine_outcome e ≡ outcome_of_read o
-  read_outcome e is None u = absurd u
-  read_outcome e is (Some d) u =
-      fun_ext (λ text. ap outcome_of (is text ∙ found_same _ _ text u.passes (parts_clean (pattern d) (unmarked_pattern d))))
+      → (o : Option Pattern) → IfSome o (λ p. is_unmarked p ≡ true) → ComesTo (Some v) o → engine_outcome e ≡ outcome_of_read o
+  read_outcome e is None c u = absurd u
+  read_outcome e is (Some p) c u = fun_ext (λ text. ap outcome_of (is text ∙ found_same _ _ text u.passes (parts_clean p c)))
 
--- something is looked for exactly where a tree is read
-pub comes_some : (v : Option (Vec CodePass Global)) (o : Option Disjunction) → ComesTo v (option_map pattern o) → is_some v ≡ is_some o
+-- something is looked for exactly where a pattern is read
+pub comes_some : (v : Option (Vec CodePass Global)) (o : Option Pattern) → ComesTo v o → is_some v ≡ is_some o
 comes_some None None u = refl
-comes_some None (Some d) u = absurd u
+comes_some None (Some p) u = absurd u
 comes_some (Some v) None u = absurd u
-comes_some (Some v) (Some d) u = refl
+comes_some (Some v) (Some p) u = refl

@@ -1,17 +1,15 @@
 -- The grammar and the meaning of a pattern's text, with no reader and no marks in them.
 use Rattle.std.specs.Prelude.{◌≡◌, ◌↔◌, ◌⊎◌, ℕ, ◌≤◌, true, false, not, IsTrue, List, [], length}
 use Rattle.strkw_pattern.specs.declared.engine.Outcome.TheVariants.{Match, NoMatch}
-use Rattle.strkw_regex_grammar.specs.Names.{are_distinct}
-use Rattle.strkw_regex_grammar.specs.Syntax.{Disjunction, spelling, names, max_length}
-use Rattle.strkw_regex_reader.specs.WellFormed.{IsWellFormed}
+use Rattle.strkw_regex_grammar.specs.Regex.{Disjunction, parts, IsMadeOf}
+use Rattle.strkw_regex_reader.specs.Limits.{takes, max_length}
 use Rattle.strkw_regex_core.specs.Tree.{Pattern, class, cat, alt, lookbehind, lookahead}
 use Rattle.strkw_charset.specs.Membership.{in_sets}
 use Rattle.strkw_charset.specs.Sets.{word_characters}
 use Rattle.strkw_charset.specs.declared.tree.CharSet.{CharSet}
 use Rattle.strkw_regex_grammar.specs.Codes.{max_code_point}
-use Rattle.strkw_regex_grammar.specs.NullEscape.{is_apart}
 use Rattle.strkw_regex_core.specs.Size.{max_steps}
-use Rattle.strkw_regex_core.specs.LeadingLookahead.{parts, steps_of_parts}
+use Rattle.strkw_regex_core.specs.LeadingLookahead.{parts as parts_of_pattern, steps_of_parts}
 use Rattle.strkw_regex_core.specs.Meaning.{Found}
 use Rattle.strkw_regex_reader.specs.Patterns.{pattern}
 use Rattle.strkw_regex_reader.specs.machine.Taken.{takes_pattern}
@@ -40,16 +38,12 @@ no_word_edge = alt
     (cat (lookbehind false word_character) (lookahead false word_character))
     (cat (lookbehind true word_character) (lookahead true word_character))
 
--- the text is a pattern, and this is its tree
+-- the text is a pattern that is taken, and this is its tree
 pub record IsPattern (source : List ℕ) (d : Disjunction) : Type 0 where
-  pub formed : IsWellFormed 0 d
-  pub spelled : spelling d ≡ source
+  pub made : IsMadeOf source (parts d)
+  pub taken : takes 0 d ≡ true
   pub short : length source ≤ max_length
-  -- behind no `\0` a decimal digit stands
-  pub apart : is_apart source ≡ true
-  -- no two groups have the same name
-  pub distinct : are_distinct (names d) ≡ true
-  pub small : steps_of_parts (parts (pattern d)) ≤ max_steps
+  pub small : steps_of_parts (parts_of_pattern (pattern d)) ≤ max_steps
 
 -- what is taken is a pattern, each pattern is taken, it has one tree, and it comes to a match
 -- exactly where that is found, and to none elsewhere

@@ -7,11 +7,10 @@ ghost use Rattle.strkw_regex_core.specs.Tree.{Pattern, start, end, boundary, no_
 ghost use Rattle.strkw_regex_core.specs.LeadingLookahead.{AreFound, parts};
 ghost use Rattle.strkw_regex_core.specs.Meaning.{Found, Matches};
 ghost use Rattle.strkw_regex_core.specs.Mirror.{mirror};
-ghost use Rattle.strkw_regex_grammar.specs.Syntax.{Disjunction};
 ghost use Rattle.strkw_regex_core.specs.Size.{max_steps};
 ghost use Rattle.strkw_regex_search.specs.machine.Counted.{AreSearchedWithin};
 ghost use Rattle.strkw_regex_reader.specs.Patterns.{pattern};
-ghost use Rattle.strkw_regex_grammar.specs.Regex.{IsRegex};
+ghost use Rattle.strkw_regex_grammar.specs.Regex.{Disjunction, IsRegex};
 ghost use Rattle.strkw_charset.specs.Sets.{digits, non_digits, white_space, non_white_space, word_characters, non_word_characters};
 
 /// What `takes` and `outcome` of `EcmaPatterns` come to, said by the grammar and the meaning: for every text, it is

@@ -2,8 +2,6 @@
 
 ghost use Rattle.std.specs.Prelude.{◌≡◌, true, IfOk, IfSome, option_map};
 ghost use Rattle.std.specs.Str.{chars};
-ghost use Rattle.strkw_regex_reader.specs.Patterns.{pattern};
-ghost use Rattle.strkw_regex_reader.specs.machine.Makers.{patterns, trees};
 ghost use Rattle.strkw_regex_search.specs.machine.Passes.{ComesTo};
 ghost use Rattle.strkw_regex_reader.specs.machine.Reading.{keep_small, read_pattern};
 ghost use Rattle.strkw_regex_core.specs.machine.Shape.{is_plain, outline_pattern};
@@ -18,8 +16,7 @@ use strkw_regex_search::passes::{Pass, passes_for, steps_of};
 /// What is looked for of a pattern, and `None` where the text is none. No term is copied, so it is known here what is
 /// too large, and which lookaheads look for too much.
 pub(crate) fn read_passes(alloc: Global, source: &str) -> Result<Option<Vec<Pass>>, AllocError>
-    ensures { IfOk result (λ made.
-        ComesTo made (option_map pattern (read_pattern trees (chars source.now)))) }
+    ensures { IfOk result (λ made. ComesTo made (read_pattern (chars source.now))) }
 {
     if !is_apart(source) {
         return Ok(None);
@@ -34,7 +31,7 @@ fn passes_if_taken(
 ) -> Result<Option<Vec<Pass>>, AllocError>
     requires { IfSome outline (λ o. is_plain o ≡ true) }
     ensures { IfOk result (λ made.
-        ComesTo made (keep_small patterns (option_map outline_pattern outline))) }
+        ComesTo made (keep_small (option_map outline_pattern outline))) }
 {
     let Some(outline) = outline else {
         return Ok(None);

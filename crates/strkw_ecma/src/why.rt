@@ -2,7 +2,7 @@
 
 ghost use Rattle.std.specs.Prelude.{◌≡◌, ◌↔◌, ◌≤◌, IsTrue, Some, IfOk, IfSome, is_none, length};
 ghost use Rattle.std.specs.Str.{chars};
-ghost use Rattle.strkw_regex_grammar.specs.Syntax.{max_length};
+ghost use Rattle.strkw_regex_reader.specs.Limits.{max_length};
 ghost use Rattle.strkw_regex_reader.specs.machine.Taken.{takes_pattern};
 ghost use Rattle.strkw_regex_reader.specs.Refusals.{IsTooLong, IsReason};
 

@@ -1,13 +1,13 @@
 -- Of an escape by a number the code holds the number that its digits make.
 use Rattle.std.proofs.Common.{◌≡◌, ℕ, ◌+◌, ◌*◌, ◌==◌, nat_le, Bool, true, false, ◌&&◌, List, [], ◌∷◌, ◌++◌, Option, Some, None, option_map, refl, ap}
 use Rattle.std.proofs.Common.{◌∙◌}
-use Rattle.std.specs.Char.{digit_value, is_ascii_alphabetic}
+use Rattle.std.specs.Char.{digit_value}
 use Rattle.std.specs.Str.{byte}
-use Rattle.strkw_regex_grammar.specs.Codes.{Code, letter_code, byte_code, unit_code, pair_code, point_code, is_hex_digit, hex_number_from, hex_number}
+use Rattle.strkw_regex_grammar.specs.Codes.{Code, unit_code, pair_code, point_code, is_hex_digit, hex_number_from, hex_number}
 use Rattle.strkw_regex_grammar.specs.Codes.{max_code_point, is_lead, is_trail, is_scalar, code_value}
 use Rattle.strkw_regex_grammar.specs.machine.CodeMakers.{value_if, hex_with, is_next_digit, code_trees, code_values}
-use Rattle.strkw_regex_grammar.specs.machine.CodeReading.{Width, byte_width, unit_width, trail_width, Wanted, one_more, two_more, three_more}
-use Rattle.strkw_regex_grammar.specs.machine.CodeReading.{four_more, Coding, letter_awaited, unit_opened, digits_of, lead_read, lead_escaped}
+use Rattle.strkw_regex_grammar.specs.machine.CodeReading.{Width, unit_width, trail_width, Wanted, one_more, two_more, three_more}
+use Rattle.strkw_regex_grammar.specs.machine.CodeReading.{four_more, Coding, unit_opened, digits_of, lead_read, lead_escaped}
 use Rattle.strkw_regex_grammar.specs.machine.CodeReading.{point_opened, Coded, fails, goes, makes, coded_if, make, with_lead, read_all, read_digit}
 use Rattle.strkw_regex_grammar.specs.machine.CodeReading.{digit_or_none, on_digit, on_unit, point_digit, on_point, coding_next, value_or}
 
@@ -18,13 +18,11 @@ hex_push v (d ∷ ds) c = hex_push (v * 16 + digit_value d) ds c
 
 -- the image of a width: with the number of the digits that it holds
 abbrev width_image : Width code_trees → Width code_values
-width_image byte_width = byte_width
 width_image unit_width = unit_width
 width_image (trail_width ds) = trail_width (hex_number ds)
 
 -- the image of a part of an escape by a number: with the numbers of its digits
 abbrev pub coding_image : Coding code_trees → Coding code_values
-coding_image letter_awaited = letter_awaited
 coding_image unit_opened = unit_opened
 coding_image (digits_of w n ds) = digits_of (width_image w) n (hex_number ds)
 coding_image (lead_read ds) = lead_read (hex_number ds)
@@ -53,7 +51,6 @@ lead_image ds true = refl
 
 -- and that of what is made of all digits of a number
 all_image : (w : Width code_trees) (ds : List ℕ) → coded_image (read_all w ds) ≡ read_all (width_image w) (hex_number ds)
-all_image byte_width ds = made_image (byte_code ds)
 all_image unit_width ds = lead_image ds (is_lead (hex_number ds))
 all_image (trail_width ds) es =
     if_image (is_trail (hex_number es)) (make (pair_code ds es)) ∙ ap (coded_if (is_trail (hex_number es))) (made_image (pair_code ds es))
@@ -111,8 +108,6 @@ point_image (Some ds) c true = made_image (point_code ds)
 
 -- the image of what comes of the next character comes of it behind the image of the part
 pub next_coding_image : (k : Coding code_trees) (c : ℕ) → coded_image (coding_next k c) ≡ coding_next (coding_image k) c
-next_coding_image letter_awaited c =
-    if_image (is_ascii_alphabetic c) (make (letter_code c)) ∙ ap (coded_if (is_ascii_alphabetic c)) (made_image (letter_code c))
 next_coding_image unit_opened c = unit_image c (c == byte "{")
 next_coding_image (digits_of w n ds) c = on_digit_image w n ds c
 next_coding_image (lead_read ds) c = if_image (c == byte "\\") (goes (lead_escaped ds))

@@ -1,20 +1,19 @@
--- Escapes by a number: each is read from its spelling, and what is read is spelled so and gives a character.
+-- Escapes with `\u` in a name: each is read from its spelling, and what is read is spelled so and gives a character.
 use Rattle.std.proofs.Common.{◌≡◌, ℕ, ◌+◌, ◌*◌, ◌≤◌, ◌==◌, Bool, true, false, List, [], ◌∷◌, ◌++◌, Option, Some, None, length, refl, sym, ap, subst}
 use Rattle.std.proofs.Common.{◌∙◌, true≢false, append_assoc, arith}
 use Rattle.std.proofs.lemmas.List.{append-nil, length_push}
 use Rattle.std.proofs.lemmas.Bool.{le-leb}
 use Rattle.std.proofs.lemmas.Bool.Decides.{nat_tests}
-use Rattle.std.specs.Char.{digit_value, is_ascii_alphabetic}
+use Rattle.std.specs.Char.{digit_value}
 use Rattle.std.specs.Str.{byte}
 use Rattle.strkw_regex_grammar.specs.Codes.{Code, null_code, letter_code, byte_code, unit_code, pair_code, point_code, is_hex_digit, are_hex_digits}
 use Rattle.strkw_regex_grammar.specs.Codes.{hex_number_from, hex_number, max_code_point, is_lead, is_trail, is_scalar, has_digits, code_spelling}
 use Rattle.strkw_regex_grammar.specs.Codes.{code_value, AreDigits, AreCodeDigits, IsCode}
 use Rattle.strkw_regex_grammar.specs.Names.{is_unicode}
-use Rattle.strkw_regex_grammar.specs.machine.CodeReading.{Width, byte_width, unit_width, trail_width, Wanted, one_more, two_more, three_more}
-use Rattle.strkw_regex_grammar.specs.machine.CodeReading.{four_more, Coding, letter_awaited, unit_opened, digits_of, lead_read, lead_escaped}
+use Rattle.strkw_regex_grammar.specs.machine.CodeReading.{Width, unit_width, trail_width, Wanted, one_more, two_more, three_more}
+use Rattle.strkw_regex_grammar.specs.machine.CodeReading.{four_more, Coding, unit_opened, digits_of, lead_read, lead_escaped}
 use Rattle.strkw_regex_grammar.specs.machine.CodeReading.{point_opened, Coded, fails, goes, makes, value_or, coded_if, make, with_lead, read_all}
 use Rattle.strkw_regex_grammar.specs.machine.CodeReading.{read_digit, digit_or_none, on_digit, on_unit, point_digit, on_point, coding_next}
-use Rattle.strkw_regex_grammar.specs.Syntax.{Disjunction}
 use Rattle.strkw_charset.proofs.Booleans.{and_true, and_left, and_right}
 use Rattle.strkw_regex_grammar.proofs.Letters.{same_char, is_not}
 use Rattle.strkw_regex_grammar.specs.machine.CodeMakers.{value_if, is_next_digit, code_trees}
@@ -33,13 +32,11 @@ point_when P ds true f h = h refl
 
 -- what has been read, behind the backslash
 abbrev width_spelling : Width code_trees → List ℕ → List ℕ
-width_spelling byte_width ds = byte "x" ∷ ds
 width_spelling unit_width ds = byte "u" ∷ ds
 width_spelling (trail_width ds) es = byte "u" ∷ (ds ++ byte "\\" ∷ byte "u" ∷ es)
 
 -- the same of any part of an escape by a number
 abbrev pub coding_spelling : Coding code_trees → List ℕ
-coding_spelling letter_awaited = byte "c" ∷ []
 coding_spelling unit_opened = byte "u" ∷ []
 coding_spelling (digits_of w n ds) = width_spelling w ds
 coding_spelling (lead_read ds) = byte "u" ∷ ds
@@ -68,7 +65,6 @@ lead_as ds true t h = h
 
 -- what is made of all digits of a number is spelled as they are
 all_read_as : (w : Width code_trees) (ds t : List ℕ) → width_spelling w ds ≡ t → IsCodedAs (read_all w ds) t
-all_read_as byte_width ds t h = made_as (byte_code ds) t h
 all_read_as unit_width ds t h = lead_as ds (is_lead (hex_number ds)) t h
 all_read_as (trail_width ds) es t h = if_as (is_trail (hex_number es)) (make (pair_code ds es)) t (λ _. made_as (pair_code ds es) t h)
 
@@ -81,7 +77,6 @@ digit_read_as w four_more ds t h = h
 
 -- digits with one more are spelled with that behind them
 width_push : (w : Width code_trees) (ds : List ℕ) (c : ℕ) → width_spelling w (ds ++ c ∷ []) ≡ width_spelling w ds ++ c ∷ []
-width_push byte_width ds c = refl
 width_push unit_width ds c = refl
 width_push (trail_width ds) es c = ap (λ z. byte "u" ∷ z) (sym (append_assoc ds (byte "\\" ∷ byte "u" ∷ es) (c ∷ [])))
 
@@ -108,7 +103,6 @@ point_as (Some ds) c true e =
 
 -- so what comes of the next character of an escape by a number is spelled with it
 pub coding_as : (k : Coding code_trees) (c : ℕ) → IsCodedAs (coding_next k c) (coding_spelling k ++ c ∷ [])
-coding_as letter_awaited c = if_as (is_ascii_alphabetic c) (make (letter_code c)) _ (λ _. made_as (letter_code c) _ refl)
 coding_as unit_opened c = unit_as c (c == byte "{") refl
 coding_as (digits_of w n ds) c = on_digit_as w n ds c
 coding_as (lead_read ds) c =
@@ -120,12 +114,6 @@ coding_as (lead_escaped ds) c =
 coding_as (point_opened o) c = point_as o c (c == byte "}") refl
 
 -- what may have been read
--- how many digits a number of this width has
-abbrev width_count : Width code_trees → ℕ
-width_count byte_width = 2
-width_count unit_width = 4
-width_count (trail_width ds) = 4
-
 -- how many digits are still to come
 abbrev pub wanted_count : Wanted → ℕ
 wanted_count one_more = 1
@@ -139,7 +127,6 @@ IsLead ds = AreDigits 4 ds × (is_lead (hex_number ds) ≡ true)
 
 -- what stands before a trailing surrogate is a leading one
 abbrev IsWidth : Width code_trees → Type 0
-IsWidth byte_width = Unit {0}
 IsWidth unit_width = Unit {0}
 IsWidth (trail_width ds) = IsLead ds
 
@@ -150,18 +137,17 @@ IsPoint (Some ds) = AreCodeDigits (point_code ds)
 
 -- this part of an escape by a number may have been read
 abbrev pub IsCoding : Coding code_trees → Type 0
-IsCoding letter_awaited = Unit {0}
 IsCoding unit_opened = Unit {0}
-IsCoding (digits_of w n ds) = IsWidth w × (are_hex_digits ds ≡ true) × (length ds + wanted_count n ≡ width_count w)
+IsCoding (digits_of w n ds) = IsWidth w × (are_hex_digits ds ≡ true) × (length ds + wanted_count n ≡ 4)
 IsCoding (lead_read ds) = IsLead ds
 IsCoding (lead_escaped ds) = IsLead ds
 IsCoding (point_opened o) = IsPoint o
 
--- what comes of a character, if anything, is such a part, or an escape that gives a character
+-- what comes of a character, if anything, is such a part, or an escape with `\u` that gives a character
 abbrev pub IsCoded : Coded code_trees → Type 0
 IsCoded fails = Unit {0}
 IsCoded (goes k) = IsCoding k
-IsCoded (makes d) = IsCode d
+IsCoded (makes d) = (is_unicode d ≡ true) × IsCode d
 
 -- what comes of a character under a test is such, if it is where the test holds
 if_formed : (b : Bool) (k : Coded code_trees) → (b ≡ true → IsCoded k) → IsCoded (coded_if b k)
@@ -169,24 +155,23 @@ if_formed false k h = tt
 if_formed true k h = h refl
 
 -- what is made of an escape with the digits of one is such
-made_formed : (d : Code) → AreCodeDigits d → IsCoded (make d)
-made_formed d h = if_formed (is_scalar (code_value d)) (makes d) (λ e. (h, e))
+made_formed : (d : Code) → is_unicode d ≡ true → AreCodeDigits d → IsCoded (make d)
+made_formed d u h = if_formed (is_scalar (code_value d)) (makes d) (λ e. (u, (h, e)))
 
 -- and what is made of four digits behind `\u`, of a leading surrogate or not
 lead_formed : (ds : List ℕ) (b : Bool) → is_lead (hex_number ds) ≡ b → AreDigits 4 ds → IsCoded (with_lead ds b)
-lead_formed ds false e h = made_formed (unit_code ds) h
+lead_formed ds false e h = made_formed (unit_code ds) refl h
 lead_formed ds true e h = (h, e)
 
 -- and what is made of all digits of a number
-all_read_formed : (w : Width code_trees) (ds : List ℕ) → IsWidth w → AreDigits (width_count w) ds → IsCoded (read_all w ds)
-all_read_formed byte_width ds v h = made_formed (byte_code ds) h
+all_read_formed : (w : Width code_trees) (ds : List ℕ) → IsWidth w → AreDigits 4 ds → IsCoded (read_all w ds)
 all_read_formed unit_width ds v h = lead_formed ds _ refl h
 all_read_formed (trail_width ds) es v h =
-    if_formed (is_trail (hex_number es)) (make (pair_code ds es)) (λ e. made_formed (pair_code ds es) (v, h, e))
+    if_formed (is_trail (hex_number es)) (make (pair_code ds es)) (λ e. made_formed (pair_code ds es) refl (v, h, e))
 
 -- and what is made of digits with one more, as many of them as there may be
 digit_read_formed : (w : Width code_trees) (n : Wanted) (ds : List ℕ) → IsWidth w → are_hex_digits ds ≡ true
-    → length ds + wanted_count n ≡ width_count w + 1 → IsCoded (read_digit w n ds)
+    → length ds + wanted_count n ≡ 5 → IsCoded (read_digit w n ds)
 digit_read_formed w one_more ds v h e = all_read_formed w ds v (h, omega (arith, e))
 digit_read_formed w two_more ds v h e = (v, h, omega (arith, e))
 digit_read_formed w three_more ds v h e = (v, h, omega (arith, e))
@@ -199,7 +184,7 @@ hex_push_digit (d ∷ ds) c h e = and_true _ _ (and_left (is_hex_digit d) _ h) (
 
 -- what comes of a character among the digits is a part that may have been read, or an escape
 on_digit_formed : (w : Width code_trees) (n : Wanted) (ds : List ℕ) (c : ℕ) → IsWidth w → are_hex_digits ds ≡ true
-    → length ds + wanted_count n ≡ width_count w → IsCoded (on_digit w n ds c)
+    → length ds + wanted_count n ≡ 4 → IsCoded (on_digit w n ds c)
 on_digit_formed w n ds c v h e =
     digit_when IsCoded w n (ds ++ c ∷ []) (is_next_digit ds c) tt
     (λ t. digit_read_formed w n (ds ++ c ∷ []) v (hex_push_digit ds c h (and_left (is_hex_digit c) _ t)) (omega (arith, length_push ds c, e)))
@@ -226,88 +211,16 @@ point_formed o c false h =
     point_when IsCoded (ds ++ c ∷ []) (is_next_digit ds c) tt
     (λ t. (hex_push_digit ds c (point_digits o h) (and_left (is_hex_digit c) _ t), has_pushed ds c))
 point_formed None c true h = tt
-point_formed (Some ds) c true h = made_formed (point_code ds) h
+point_formed (Some ds) c true h = made_formed (point_code ds) refl h
 
 -- so what comes of a character behind a part that may have been read is such a part, or an escape
 pub coding_formed : (k : Coding code_trees) (c : ℕ) → IsCoding k → IsCoded (coding_next k c)
-coding_formed letter_awaited c h = if_formed (is_ascii_alphabetic c) (make (letter_code c)) (λ e. made_formed (letter_code c) e)
 coding_formed unit_opened c h = unit_formed c (c == byte "{")
 coding_formed (digits_of w n ds) c h = on_digit_formed w n ds c h.0 h.1 h.2
 coding_formed (lead_read ds) c h = if_formed (c == byte "\\") (goes (lead_escaped ds)) (λ e. h)
 coding_formed (lead_escaped ds) c h =
     if_formed (c == byte "u") (goes (digits_of (trail_width ds) four_more [])) (λ e. (h, refl, refl))
 coding_formed (point_opened o) c h = point_formed o c (c == byte "}") h
-
--- what may have been read behind `\u`
-abbrev is_unicode_width : Width code_trees → Bool
-is_unicode_width byte_width = false
-is_unicode_width unit_width = true
-is_unicode_width (trail_width ds) = true
-
--- the same of any part of an escape
-abbrev pub is_unicode_coding : Coding code_trees → Bool
-is_unicode_coding letter_awaited = false
-is_unicode_coding unit_opened = true
-is_unicode_coding (digits_of w n ds) = is_unicode_width w
-is_unicode_coding (lead_read ds) = true
-is_unicode_coding (lead_escaped ds) = true
-is_unicode_coding (point_opened ds) = true
-
--- what comes of a character, if anything, is a part or a whole of an escape with `\u`
-abbrev pub IsUnicode : Coded code_trees → Type 0
-IsUnicode fails = Unit {0}
-IsUnicode (goes k) = is_unicode_coding k ≡ true
-IsUnicode (makes d) = is_unicode d ≡ true
-
--- what is one with `\u` is so under a test too
-if_unicode : (b : Bool) (k : Coded code_trees) → IsUnicode k → IsUnicode (coded_if b k)
-if_unicode false k h = tt
-if_unicode true k h = h
-
--- what is made of the digits behind `\u`, of a leading surrogate or not, is one with `\u`
-lead_unicode : (ds : List ℕ) (b : Bool) → IsUnicode (with_lead ds b)
-lead_unicode ds false = if_unicode (is_scalar (code_value (unit_code ds))) (makes (unit_code ds)) refl
-lead_unicode ds true = refl
-
--- and what is made of all digits of a number with `\u`
-all_read_unicode : (w : Width code_trees) (ds : List ℕ) → is_unicode_width w ≡ true → IsUnicode (read_all w ds)
-all_read_unicode byte_width ds h = absurd (true≢false (sym h))
-all_read_unicode unit_width ds h = lead_unicode ds (is_lead (hex_number ds))
-all_read_unicode (trail_width ds) es h =
-    if_unicode (is_trail (hex_number es)) (make (pair_code ds es))
-    (if_unicode (is_scalar (code_value (pair_code ds es))) (makes (pair_code ds es)) refl)
-
--- and what is made of its digits, where more may be to come
-digit_read_unicode : (w : Width code_trees) (n : Wanted) (ds : List ℕ) → is_unicode_width w ≡ true → IsUnicode (read_digit w n ds)
-digit_read_unicode w one_more ds h = all_read_unicode w ds h
-digit_read_unicode w two_more ds h = h
-digit_read_unicode w three_more ds h = h
-digit_read_unicode w four_more ds h = h
-
--- and what comes of a character among them
-on_digit_unicode : (w : Width code_trees) (n : Wanted) (ds : List ℕ) (c : ℕ) → is_unicode_width w ≡ true → IsUnicode (on_digit w n ds c)
-on_digit_unicode w n ds c h =
-    digit_when IsUnicode w n (ds ++ c ∷ []) (is_next_digit ds c) tt (λ _. digit_read_unicode w n (ds ++ c ∷ []) h)
-
--- and what comes of one behind `\u`
-unit_unicode : (c : ℕ) (b : Bool) → IsUnicode (on_unit c b)
-unit_unicode c false = on_digit_unicode unit_width four_more [] c refl
-unit_unicode c true = refl
-
--- and what comes of one behind `\u{` and digits
-point_unicode : (o : Option (List ℕ)) (c : ℕ) (b : Bool) → IsUnicode (on_point o c b)
-point_unicode o c false = point_when IsUnicode (value_or [] o ++ c ∷ []) (is_next_digit (value_or [] o) c) tt (λ _. refl)
-point_unicode None c true = tt
-point_unicode (Some ds) c true = if_unicode (is_scalar (code_value (point_code ds))) (makes (point_code ds)) refl
-
--- so what comes of a character behind a part with `\u` is one with `\u`
-pub coding_unicode : (k : Coding code_trees) (c : ℕ) → is_unicode_coding k ≡ true → IsUnicode (coding_next k c)
-coding_unicode letter_awaited c h = absurd (true≢false (sym h))
-coding_unicode unit_opened c h = unit_unicode c (c == byte "{")
-coding_unicode (digits_of w n ds) c h = on_digit_unicode w n ds c h
-coding_unicode (lead_read ds) c h = if_unicode (c == byte "\\") (goes (lead_escaped ds)) refl
-coding_unicode (lead_escaped ds) c h = if_unicode (c == byte "u") (goes (digits_of (trail_width ds) four_more [])) refl
-coding_unicode (point_opened o) c h = point_unicode o c (c == byte "}")
 
 -- numbers
 -- the number of digits, and others behind them, goes on from the number of the first
@@ -350,11 +263,11 @@ no_lead n false e h = refl
 no_lead n true e h = grind (arith, nat_tests)
 
 -- the rest of a pattern that is read, behind a part of an escape and behind a whole one
-abbrev pub Behind : Type 0 → Type 0
-Behind A = A → List ℕ → Option Disjunction
+abbrev pub Behind : Type 0 → Type 0 → Type 0
+Behind B A = A → List ℕ → Option B
 
 -- the same behind what comes of a character, which may be nothing
-abbrev pub follow : Behind (Coding code_trees) → Behind Code → Behind (Coded code_trees)
+abbrev pub follow : {B : Type 0} → Behind B (Coding code_trees) → Behind B Code → Behind B (Coded code_trees)
 follow F G fails cs = None
 follow F G (goes k) cs = F k cs
 follow F G (makes d) cs = G d cs
@@ -368,15 +281,6 @@ code_tail (unit_code ds) = ds
 code_tail (pair_code ds es) = ds ++ byte "\\" ∷ byte "u" ∷ es
 code_tail (point_code ds) = byte "{" ∷ (ds ++ byte "}" ∷ [])
 
--- the rest of a pattern that is read, behind the backslash and the letter of an escape
-abbrev pub begun : Behind (Coding code_trees) → Behind Code → Behind Code
-begun F G null_code cs = G null_code cs
-begun F G (letter_code c) cs = F letter_awaited cs
-begun F G (byte_code ds) cs = F (digits_of byte_width two_more []) cs
-begun F G (unit_code ds) cs = F unit_opened cs
-begun F G (pair_code ds es) cs = F unit_opened cs
-begun F G (point_code ds) cs = F unit_opened cs
-
 -- there is always a digit still to come
 pub no_digits : (n : Wanted) → 0 ≡ wanted_count n → ⊥
 no_digits one_more e = omega (arith, e)
@@ -384,7 +288,7 @@ no_digits two_more e = omega (arith, e)
 no_digits three_more e = omega (arith, e)
 no_digits four_more e = omega (arith, e)
 
-module _ (F : Behind (Coding code_trees)) (G : Behind Code) (turn : (k : Coding code_trees) (c : ℕ) (cs : List ℕ) → F k (c ∷ cs) ≡ follow F G (coding_next k c) cs) where
+module _ {B : Type 0} (F : Behind B (Coding code_trees)) (G : Behind B Code) (turn : (k : Coding code_trees) (c : ℕ) (cs : List ℕ) → F k (c ∷ cs) ≡ follow F G (coding_next k c) cs) where
   -- an escape whose character a text can have is read as a whole one
   made_follows : (d : Code) → is_scalar (code_value d) ≡ true → (cs : List ℕ) → follow F G (make d) cs ≡ G d cs
   made_follows d h cs = ap (λ (b : Bool). follow F G (coded_if b (makes d)) cs) h
@@ -468,24 +372,22 @@ module _ (F : Behind (Coding code_trees)) (G : Behind Code) (turn : (k : Coding 
   reads_unit ds h m b e cs =
       opens ds h cs ∙ reads_digits unit_width four_more [] ds h.0 h.1 m cs ∙ ap (λ (b : Bool). follow F G (with_lead ds b) cs) e
 
-  -- behind its backslash and letter, each escape by a number is read from the rest of its spelling
-  pub reads_code : (d : Code) → IsCode d → (cs : List ℕ) → begun F G d (code_tail d ++ cs) ≡ G d cs
-  reads_code null_code h cs = refl
-  reads_code (letter_code c) h cs =
-      turn letter_awaited c cs ∙ ap (λ (b : Bool). follow F G (coded_if b (make (letter_code c))) cs) h.0 ∙ made_follows (letter_code c) h.1 cs
-  reads_code (byte_code ds) h cs =
-      reads_digits byte_width two_more [] ds h.0.0 h.0.1 (scalar_small (hex_number ds) h.1) cs ∙ made_follows (byte_code ds) h.1 cs
-  reads_code (unit_code ds) h cs =
+  -- behind its backslash and letter, each escape with `\u` is read from the rest of its spelling
+  pub reads_code : (d : Code) → is_unicode d ≡ true → IsCode d → (cs : List ℕ) → F unit_opened (code_tail d ++ cs) ≡ G d cs
+  reads_code null_code u h cs = absurd (true≢false (sym u))
+  reads_code (letter_code c) u h cs = absurd (true≢false (sym u))
+  reads_code (byte_code ds) u h cs = absurd (true≢false (sym u))
+  reads_code (unit_code ds) u h cs =
       reads_unit ds h.0 (scalar_small (hex_number ds) h.1) false (no_lead (hex_number ds) (is_lead (hex_number ds)) refl h.1) cs
       ∙ made_follows (unit_code ds) h.1 cs
-  reads_code (pair_code ds es) h cs =
+  reads_code (pair_code ds es) u h cs =
       let rest = byte "\\" ∷ byte "u" ∷ (es ++ cs) in
       ap (F unit_opened) (append_assoc ds (byte "\\" ∷ byte "u" ∷ es) cs)
       ∙ reads_unit ds h.0.0.0 (lead_small (hex_number ds) h.0.0.1) true h.0.0.1 rest
       ∙ turn (lead_read ds) (byte "\\") (byte "u" ∷ (es ++ cs)) ∙ turn (lead_escaped ds) (byte "u") (es ++ cs)
       ∙ reads_digits (trail_width ds) four_more [] es h.0.1.0 h.0.1.1 (trail_small (hex_number es) h.0.2) cs
       ∙ ap (λ (b : Bool). follow F G (coded_if b (make (pair_code ds es))) cs) h.0.2 ∙ made_follows (pair_code ds es) h.1 cs
-  reads_code (point_code ds) h cs =
+  reads_code (point_code ds) u h cs =
       turn unit_opened (byte "{") ((ds ++ byte "}" ∷ []) ++ cs) ∙ ap (F (point_opened None)) (append_assoc ds (byte "}" ∷ []) cs)
       ∙ reads_point ds h.0 (scalar_small (hex_number ds) h.1) (byte "}" ∷ cs) ∙ turn (point_opened (Some ds)) (byte "}") cs
       ∙ made_follows (point_code ds) h.1 cs

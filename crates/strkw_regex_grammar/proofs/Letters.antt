@@ -1,5 +1,5 @@
 -- What a character is fixes it, where it is one character alone.
-use Rattle.std.proofs.Common.{◌≡◌, ℕ, Bool, true, false, if◌then◌else◌, ◌==◌, codes, refl, sym, ap, ◌∙◌, true≢false, arith, List, [], ◌∷◌}
+use Rattle.std.proofs.Common.{◌≡◌, ℕ, Bool, true, false, if◌then◌else◌, ◌==◌, codes, refl, sym, ap, ◌∙◌, true≢false, arith}
 use Rattle.std.proofs.lemmas.Bool.Decides.{nat_tests}
 use Rattle.std.specs.Str.{byte}
 use Rattle.strkw_text.specs.Characters.{is_one_of}
@@ -142,12 +142,6 @@ char_of_name_token c =
     let P = λ (t : NameToken). char_of_name t c ≡ c in
     by_test (c == byte ">") P _ _ (same_char c _) (by_test (c == byte "\\") P _ _ (same_char c _)
     (by_test (c == byte "=") P _ _ (same_char c _) (by_test (c == byte "!") P _ _ (same_char c _) refl)))
-
--- no alternative begins with a question mark, so that behind `(` one is none of its
--- the text does not begin with a question mark
-abbrev pub IsNoQuestion : List ℕ → Type 0
-IsNoQuestion [] = Unit {0}
-IsNoQuestion (c ∷ cs) = (c == byte "?") ≡ false
 
 -- whether the token is that of a character that stands for itself
 is_character : Token → Bool

@@ -1,10 +1,10 @@
 -- The parts of names.
-use Rattle.std.proofs.Common.{◌≡◌, ℕ, Bool, true, false, if◌then◌else◌, ◌==◌, List, [], ◌∷◌, ◌++◌, refl, ap, ◌∙◌}
+use Rattle.std.proofs.Common.{◌≡◌, ℕ, Bool, true, false, if◌then◌else◌, ◌==◌, List, [], ◌∷◌, ◌++◌, refl, ap, ◌∙◌, not, ◌&&◌, ◌||◌, map, sym}
 use Rattle.std.specs.Str.{byte}
 use Rattle.ucd_derived.proofs.Computing.{ucd_derived}
-use Rattle.strkw_regex_grammar.specs.Names.{NameChar, name_value, is_name_start, is_name_part, IsNameChar, AreNameParts, IsName, may_follow}
-use Rattle.strkw_regex_grammar.specs.Names.{name_token, name_end, name_backslash, name_equals, name_negation, name_character}
+use Rattle.strkw_regex_grammar.specs.Names.{NameChar, name_value, is_name_start, is_name_part, IsNameChar, AreNameParts, IsName, may_follow, name_token, name_end, name_backslash, name_equals, name_negation, name_character, same_name, are_distinct}
 use Rattle.strkw_regex_grammar.proofs.Letters.{is_not}
+use Rattle.std.specs.List.{list_any}
 
 -- the beginning of a name
 abbrev pub IsNamePart : List NameChar → Type 0
@@ -27,12 +27,12 @@ pub IsApart : (ℕ → Bool) → Type 0
 IsApart f = (f (byte ">") ≡ false) × (f (byte "\\") ≡ false) × (f (byte "=") ≡ false) × (f (byte "!") ≡ false)
 
 -- so it is with the characters that may begin a name
-start_apart : IsApart is_name_start
+pub start_apart : IsApart is_name_start
 unfolding IsApart ucd_derived
 start_apart = (refl, refl, refl, refl)
 
 -- and with those that may go on with it
-part_apart : IsApart is_name_part
+pub part_apart : IsApart is_name_part
 unfolding IsApart ucd_derived
 part_apart = (refl, refl, refl, refl)
 
@@ -51,3 +51,17 @@ token_of_name f a c h =
     else name_character) (is_not f c (byte "\\") _ refl h a.1)
     ∙ ap (λ (b : Bool). if b then name_equals else if c == byte "!" then name_negation else name_character) (is_not f c (byte "=") _ refl h a.2)
     ∙ ap (λ (b : Bool). if b then name_negation else name_character) (is_not f c (byte "!") _ refl h a.3)
+
+-- ---- whether no name of a list is there twice, from the first on
+
+-- a name is among those that f gives exactly where f gives it to some element
+any_of_map : {X : Type 0} (f : X → List ℕ) (n : List ℕ) (xs : List X)
+    → list_any (λ m. same_name m n) (map f xs) ≡ list_any (λ y. same_name (f y) n) xs
+any_of_map f n [] = refl
+any_of_map f n (x ∷ xs) = ap (λ (b : Bool). same_name (f x) n || b) (any_of_map f n xs)
+
+-- names are distinct exactly where the first is none of the others and these are distinct
+pub distinct_by_first : {X : Type 0} (f : X → List ℕ) (x : X) (xs : List X) (b : Bool)
+    → b ≡ list_any (λ y. same_name (f y) (f x)) xs → are_distinct (map f (x ∷ xs)) ≡ not b && are_distinct (map f xs)
+distinct_by_first f x xs b e =
+    ap (λ (z : Bool). not z && are_distinct (map f xs)) (any_of_map f (f x) xs ∙ sym e)

@@ -1,8 +1,11 @@
 -- Digits and the number that they make.
 use Rattle.std.proofs.Common.{◌≡◌, ℕ, ◌+◌, ◌*◌, ◌-◌, ◌≤◌, ◌==◌, Bool, true, false, List, [], ◌∷◌, ◌++◌, if◌then◌else◌, refl, sym, ap, ◌∙◌, true≢false}
-use Rattle.std.proofs.Common.{arith}
+use Rattle.std.proofs.Common.{arith, nat_le}
+use Rattle.std.proofs.lemmas.Bool.Decides.{nat_tests}
+use Rattle.strkw_regex_grammar.specs.Regex.{capture_limit}
+use Rattle.strkw_regex_grammar.specs.machine.Lexemes.{cap_number}
 use Rattle.std.specs.Str.{byte}
-use Rattle.strkw_regex_grammar.specs.Numbers.{is_digit, are_digits, number_from, number, max_count, CountToken, digit, comma, closing_brace, no_count}
+use Rattle.strkw_regex_grammar.specs.Numbers.{is_digit, are_digits, number_from, number, CountToken, digit, comma, closing_brace, no_count}
 use Rattle.strkw_regex_grammar.specs.Numbers.{count_token}
 use Rattle.strkw_charset.proofs.Booleans.{and_true, and_left, and_right}
 
@@ -20,12 +23,6 @@ number_append v (d ∷ ds) es = number_append (v * 10 + (d - byte "0")) ds es
 pub grows : (v : ℕ) (ds : List ℕ) → v ≤ number_from v ds
 grows v [] = omega arith
 grows v (d ∷ ds) = omega (arith, grows (v * 10 + (d - byte "0")) ds)
-
--- where a number is not too great, that of its first digits is not
-pub front_small : (ds es : List ℕ) → number (ds ++ es) ≤ max_count → number ds ≤ max_count
-front_small ds es h =
-    let whole : number (ds ++ es) ≡ number_from (number ds) es = number_append 0 ds es in
-    omega (arith, whole, grows (number ds) es, h)
 
 -- digits with one more are digits
 pub digits_push : (ds : List ℕ) (c : ℕ) → are_digits ds ≡ true → is_digit c ≡ true → are_digits (ds ++ c ∷ []) ≡ true
@@ -57,3 +54,17 @@ is_digit_of c h = digit_alone (is_digit c) _ (other_tokens (c == byte ",") (c ==
 -- and a digit is taken as one
 pub token_of_digit : (c : ℕ) → is_digit c ≡ true → count_token c ≡ digit
 token_of_digit c h = ap (λ (b : Bool). if b then digit else if c == byte "," then comma else if c == byte "}" then closing_brace else no_count) h
+
+-- a number that is held may be held before one digit more too
+pub held_push : (n d : ℕ) → cap_number (n * 10 + d) ≡ cap_number (cap_number n * 10 + d)
+held_push n d = by_test (nat_le n capture_limit) refl
+  where
+    -- by whether it is held
+    by_test : (b : Bool) → nat_le n capture_limit ≡ b → cap_number (n * 10 + d) ≡ cap_number ((if b then n else capture_limit) * 10 + d)
+    by_test true e = refl
+    by_test false e = grind (arith, nat_tests)
+
+-- so digits with one more have the number that is held of them
+pub held_more : (ds : List ℕ) (c n : ℕ) → n ≡ cap_number (number ds) → cap_number (n * 10 + (c - byte "0")) ≡ cap_number (number (ds ++ c ∷ []))
+held_more ds c n h =
+    ap (λ z. cap_number (z * 10 + (c - byte "0"))) h ∙ sym (held_push (number ds) (c - byte "0")) ∙ ap cap_number (sym (number_push 0 ds c))

@@ -7,7 +7,6 @@ use Rattle.strkw_charset.specs.Properties.{Expression, alone, valued, expression
 use Rattle.strkw_charset.specs.Properties.{property_letter, property_spelling}
 use Rattle.strkw_charset.specs.machine.PropertyReading.{PropertyPart, brace_awaited, in_braces, PropertyRead, no_property_read, property_goes}
 use Rattle.strkw_charset.specs.machine.PropertyReading.{property_ends, with_char, on_brace, on_equals, on_property_char, property_next}
-use Rattle.strkw_regex_grammar.specs.Syntax.{Disjunction}
 use Rattle.strkw_charset.proofs.Booleans.{and_true, and_left, and_right}
 use Rattle.strkw_regex_grammar.proofs.Letters.{same_char, is_not}
 
@@ -106,13 +105,13 @@ property_formed (brace_awaited n) c h = brace_formed n (c == byte "{")
 property_formed (in_braces n e) c h = in_braces_formed n e c _ _ _ h refl
 
 -- the rest of a pattern that is read, behind a part of a property and behind a whole one
-abbrev pub follow_property : (PropertyPart → List ℕ → Option Disjunction) → (Bool → Expression → List ℕ → Option Disjunction) → PropertyRead → List ℕ
-    → Option Disjunction
+abbrev pub follow_property : {A : Type 0} → (PropertyPart → List ℕ → Option A) → (Bool → Expression → List ℕ → Option A) → PropertyRead → List ℕ
+    → Option A
 follow_property F G no_property_read cs = None
 follow_property F G (property_goes k) cs = F k cs
 follow_property F G (property_ends n e) cs = G n e cs
 
-module _ (F : PropertyPart → List ℕ → Option Disjunction) (G : Bool → Expression → List ℕ → Option Disjunction)
+module _ {A : Type 0} (F : PropertyPart → List ℕ → Option A) (G : Bool → Expression → List ℕ → Option A)
     (turn : (k : PropertyPart) (c : ℕ) (cs : List ℕ) → F k (c ∷ cs) ≡ follow_property F G (property_next k c) cs) where
   -- in the braces a character that may stand in a property is read as one more
   reads_char : (n : Bool) (e : Expression) (c : ℕ) (cs : List ℕ) → is_property_char c ≡ true

@@ -1,7 +1,7 @@
 -- The names of the groups as a set: it has those that were put in.
-use Rattle.std.proofs.Common.{◌≡◌, ◌∙◌, ℕ, ◌+◌, ◌<◌, ◌≤◌, List, [], ◌∷◌, ◌++◌, length, map, get_or, take, drop, Bool, true, false, not, ◌&&◌, ◌||◌}
+use Rattle.std.proofs.Common.{◌≡◌, ◌∙◌, ℕ, ◌+◌, ◌<◌, List, [], ◌∷◌, ◌++◌, length, map, get_or, take, drop, Bool, true, false, not, ◌&&◌, ◌||◌}
 use Rattle.std.proofs.Common.{Bor, Ordering, Less, Equal, Greater, nat_le, refl, sym, ap, true≢false}
-use Rattle.std.proofs.lemmas.List.{map-append, take-append-drop, take_all, take_more, drop_more}
+use Rattle.std.proofs.lemmas.List.{map-append, take-append-drop, take_more, drop_more}
 use Rattle.std.proofs.lemmas.List.Folds.{list_any-append}
 use Rattle.std.proofs.lemmas.Map.Text.{is_eq-slice_cmp}
 use Rattle.std.proofs.lemmas.Slice.Eq.{bytes_eq-Decides}
@@ -13,7 +13,7 @@ use Rattle.strkw_regex_grammar.specs.Names.{same_name, are_distinct}
 use Rattle.strkw_regex_grammar.specs.machine.NameSets.{has_name}
 use Rattle.strkw_regex_grammar.specs.machine.Recognising.{ParserStack, is_closed, is_whole}
 use Rattle.strkw_charset.proofs.Booleans.{and_true, and_left, and_right}
-use Rattle.strkw_regex_grammar.proofs.RegexItems.{and_false}
+use Rattle.strkw_regex_grammar.proofs.LexerItems.{and_false}
 
 -- a name as the code borrows it
 abbrev pub Name : Type 0
@@ -123,10 +123,6 @@ twice (m ∷ ns) n ms h = by_first (same_name n m) refl h (twice ns n ms)
     by_first false e w rest = and_false (not (list_any (λ k. same_name k m) (ns ++ n ∷ ms))) _ (rest w)
 
 module _ {X : Type 0} (f : X → List ℕ) (xs : List X) (i : ℕ) where
-  -- the names of all elements are those of the first, where these are all
-  pub all_names : length xs ≤ i → map f (take i xs) ≡ map f xs
-  all_names h = ap (map f) (take_all i xs h)
-
   module _ (x : X) (is : x ≡ get_or xs i x) (less : i < length xs) where
     -- with one element more there is one name more
     pub next_names : map f (take (i + 1) xs) ≡ map f (take i xs) ++ f x ∷ []
@@ -152,12 +148,6 @@ whole_named t set g d h b e =
     same_all [] = refl
     same_all (n ∷ ns) =
         ap (λ (z : Bool). z && list_all (has_name set) ns) (h n) ∙ ap (λ (z : Bool). list_any (same_name n) t.names && z) (same_all ns)
-
--- where one is
-pub whole_twice : (t : ParserStack) → are_distinct t.names ≡ false → false ≡ is_whole t
-whole_twice t d =
-    sym (ap (λ (z : Bool). z && list_all (λ n. list_any (same_name n) t.names) t.calls)
-    (and_false (is_closed t.groups && nat_le t.greatest t.captures) _ d))
 
 -- and where a group is open, or a number too great
 pub whole_open : (t : ParserStack) → (is_closed t.groups && nat_le t.greatest t.captures) ≡ false → false ≡ is_whole t

@@ -8,14 +8,18 @@ use Rattle.std.proofs.lemmas.Bool.{lt-ltb, ltb-true}
 use Rattle.std.proofs.lemmas.Bool.Decides.{nat_tests}
 use Rattle.strkw_regex_grammar.specs.Numbers.{number}
 use Rattle.strkw_regex_grammar.specs.Names.{name_value}
-use Rattle.strkw_regex_grammar.specs.Syntax.{capturing, plain_group, named, Enclosing, of_group, of_lookbehind, of_lookahead}
+use Rattle.strkw_regex_grammar.specs.Syntax.{capturing, plain_group, named, Enclosing, of_group, of_lookbehind, of_lookahead, Quantifier}
+use Rattle.strkw_regex_grammar.specs.Syntax.{zero_or_more, one_or_more, zero_or_one, exactly, at_least, from_to}
 use Rattle.strkw_regex_grammar.specs.Regex.{Leaf, plain, dot, escaped, control_escape, set_escape, coded, property_escape, numbered, bracketed, Part}
-use Rattle.strkw_regex_grammar.specs.Regex.{bar, edge, leaf, opens, closes, repeats, lazily, captures, names, numbers, calls, capture_limit}
+use Rattle.strkw_regex_grammar.specs.Regex.{bar, edge, leaf, opens, closes, repeats, captures, names, numbers, calls, capture_limit}
 use Rattle.strkw_regex_grammar.specs.Regex.{called as calls_for}
 use Rattle.strkw_regex_grammar.specs.machine.Recognising.{Last, none, atom, counted, last_if, ParserStack, with_last, open_group, open_capture, when}
 use Rattle.strkw_regex_grammar.specs.machine.Recognising.{open_capture_within, with_name, add_call, greater_of, add_reference, close_group_in}
-use Rattle.strkw_regex_grammar.specs.machine.Recognising.{close_group, add_quantifier_behind, add_quantifier, cap_number}
-use Rattle.strkw_regex_grammar.proofs.RegexTrees.{Shape, closes_shape, repeats_shape, lazy_shape, shape_step, shapes}
+use Rattle.strkw_regex_grammar.specs.machine.Recognising.{close_group, add_quantifier_behind, add_question_behind, step as lexeme_step}
+use Rattle.strkw_regex_grammar.specs.Codes.{null_code, letter_code, byte_code, unit_code, pair_code, point_code}
+use Rattle.strkw_regex_grammar.specs.machine.Lexemes.{cap_number, lexemes, leaf_lexemes}
+use Rattle.strkw_regex_grammar.proofs.LexerRuns.{take_lexemes, part_steps}
+use Rattle.strkw_regex_grammar.proofs.RegexTrees.{Shape, closes_shape, repeats_shape, shape_step, shapes}
 
 -- behind a leaf
 abbrev pub leaf_step : ParserStack → Leaf → ParserStack
@@ -31,11 +35,20 @@ open_step s (of_group (named n)) = open_capture_within (with_name s (name_value 
 open_step s (of_lookbehind b) = Some (open_group s false)
 open_step s (of_lookahead b) = Some (open_group s false)
 
--- behind the `?` that makes a quantifier lazy
-abbrev pub lazied : ParserStack → Last → Option ParserStack
-lazied s none = None
-lazied s atom = None
-lazied s counted = Some (with_last s none)
+-- behind a quantifier, a `?` that makes it lazy
+abbrev pub lazied : ParserStack → Quantifier → Option ParserStack
+lazied s zero_or_more = None
+lazied s one_or_more = None
+lazied s zero_or_one = Some (with_last s none)
+lazied s (exactly ds) = None
+lazied s (at_least ds) = None
+lazied s (from_to ds es) = None
+
+-- and a quantifier, where one may stand
+abbrev pub repeated : ParserStack → Last → Quantifier → Option ParserStack
+repeated s none q = None
+repeated s atom q = Some (with_last s counted)
+repeated s counted q = lazied s q
 
 -- and behind any part
 abbrev pub step : ParserStack → Part → Option ParserStack
@@ -44,8 +57,7 @@ step s (edge e) = Some (with_last s none)
 step s (leaf l) = Some (leaf_step s l)
 step s (opens e) = open_step s e
 step s closes = close_group s
-step s (repeats q) = add_quantifier s
-step s lazily = lazied s s.last
+step s (repeats q) = repeated s s.last q
 
 -- behind parts, one behind the other
 abbrev pub steps : ParserStack → List Part → Option ParserStack
@@ -172,19 +184,21 @@ module _ (s : ParserStack) (small : s.captures < capture_limit) where
   close_reaches [] e = tt
   close_reaches (q ∷ gs) e = same_facts closes gs (last_if q) (ap closes_shape e) refl refl refl refl
 
-  -- and a quantifier, where one may stand
-  repeat_reaches : (x : Last) → s.last ≡ x → (p : Part) → shape_step s.groups s.last p ≡ repeats_shape s.groups s.last
-      → captures (p ∷ []) ≡ 0 → names (p ∷ []) ≡ [] → calls (p ∷ []) ≡ [] → numbers (p ∷ []) ≡ []
-      → IfSome (add_quantifier_behind s x) (Reached s (p ∷ []))
-  repeat_reaches none e p w c n l m = tt
-  repeat_reaches atom e p w c n l m = same_facts p s.groups counted (w ∙ ap (repeats_shape s.groups) e) c n l m
-  repeat_reaches counted e p w c n l m = tt
+  -- and a `?` behind a quantifier
+  lazy_reaches : s.last ≡ counted → (q : Quantifier) → IfSome (lazied s q) (Reached s (repeats q ∷ []))
+  lazy_reaches e zero_or_more = tt
+  lazy_reaches e one_or_more = tt
+  lazy_reaches e zero_or_one =
+      same_facts (repeats zero_or_one) s.groups none (ap (λ x. repeats_shape s.groups x zero_or_one) e) refl refl refl refl
+  lazy_reaches e (exactly ds) = tt
+  lazy_reaches e (at_least ds) = tt
+  lazy_reaches e (from_to ds es) = tt
 
-  -- and the `?` behind one
-  lazy_reaches : (x : Last) → s.last ≡ x → IfSome (lazied s x) (Reached s (lazily ∷ []))
-  lazy_reaches none e = tt
-  lazy_reaches atom e = tt
-  lazy_reaches counted e = same_facts lazily s.groups none (ap (lazy_shape s.groups) e) refl refl refl refl
+  -- and a quantifier, where one may stand
+  repeat_reaches : (x : Last) → s.last ≡ x → (q : Quantifier) → IfSome (repeated s x q) (Reached s (repeats q ∷ []))
+  repeat_reaches none e q = tt
+  repeat_reaches atom e q = same_facts (repeats q) s.groups counted (ap (λ x. repeats_shape s.groups x q) e) refl refl refl refl
+  repeat_reaches counted e q = lazy_reaches e q
 
   -- so any part reaches what is behind it
   step_reaches : (p : Part) → IfSome (step s p) (Reached s (p ∷ []))
@@ -193,8 +207,7 @@ module _ (s : ParserStack) (small : s.captures < capture_limit) where
   step_reaches (leaf l) = leaf_reaches l
   step_reaches (opens e) = open_reaches e
   step_reaches closes = close_reaches s.groups refl
-  step_reaches (repeats q) = repeat_reaches s.last refl (repeats q) refl refl refl refl refl
-  step_reaches lazily = lazy_reaches s.last refl
+  step_reaches (repeats q) = repeat_reaches s.last refl q
 
 -- the groups of a part and of others behind it are counted together
 pub captures_more : (p : Part) (ps : List Part) → captures (p ∷ ps) ≡ captures (p ∷ []) + captures ps
@@ -208,7 +221,6 @@ captures_more (opens (of_lookbehind b)) ps = omega arith
 captures_more (opens (of_lookahead b)) ps = omega arith
 captures_more closes ps = omega arith
 captures_more (repeats q) ps = omega arith
-captures_more lazily ps = omega arith
 
 -- so are their names
 pub names_more : (p : Part) (ps : List Part) → names (p ∷ ps) ≡ names (p ∷ []) ++ names ps
@@ -222,7 +234,6 @@ names_more (opens (of_lookbehind b)) ps = refl
 names_more (opens (of_lookahead b)) ps = refl
 names_more closes ps = refl
 names_more (repeats q) ps = refl
-names_more lazily ps = refl
 
 -- and the names and the numbers of back references
 pub asked_more : (p : Part) (ps : List Part) → ((calls (p ∷ ps) ≡ calls (p ∷ []) ++ calls ps) × (numbers (p ∷ ps) ≡ numbers (p ∷ []) ++ numbers ps))
@@ -241,7 +252,6 @@ asked_more (leaf (bracketed n r e)) ps = (refl, refl)
 asked_more (opens e) ps = (refl, refl)
 asked_more closes ps = (refl, refl)
 asked_more (repeats q) ps = (refl, refl)
-asked_more lazily ps = (refl, refl)
 
 -- tests of three may be put together either way
 and_again : (a b c : Bool) → ((a && b) && c) ≡ (a && (b && c))
@@ -360,21 +370,77 @@ goes_on (closes ∷ ps) s h w = by_groups (goes_on ps) s.groups h
       names = s.names;
       calls = s.calls;
     }) k w
-goes_on (repeats q ∷ ps) s h w = by_last (goes_on ps) s.last h
+goes_on (repeats q ∷ ps) s h w = by_last (goes_on ps) s.last q h
   where
-    -- by the last term
+    -- by the last term and the quantifier
     by_last : ((u : ParserStack) → is_some (shapes u.groups u.last ps) ≡ true → u.captures + captures ps < capture_limit → Goes u ps)
-        → (x : Last) → is_some (option_and_then (λ (z : Shape). shapes z.0 z.1 ps) (repeats_shape s.groups x)) ≡ true
-        → ((t : ParserStack) × (option_and_then (λ u. steps u ps) (add_quantifier_behind s x) ≡ Some t))
-    by_last rest none k = absurd (true≢false (sym k))
-    by_last rest atom k = rest (with_last s counted) k w
-    by_last rest counted k = absurd (true≢false (sym k))
-goes_on (lazily ∷ ps) s h w = by_last (goes_on ps) s.last h
+        → (x : Last) (q : Quantifier) → is_some (option_and_then (λ (z : Shape). shapes z.0 z.1 ps) (repeats_shape s.groups x q)) ≡ true
+        → ((t : ParserStack) × (option_and_then (λ u. steps u ps) (repeated s x q) ≡ Some t))
+    by_last rest none q k = absurd (true≢false (sym k))
+    by_last rest atom q k = rest (with_last s counted) k w
+    by_last rest counted zero_or_more k = absurd (true≢false (sym k))
+    by_last rest counted one_or_more k = absurd (true≢false (sym k))
+    by_last rest counted zero_or_one k = rest (with_last s none) k w
+    by_last rest counted (exactly ds) k = absurd (true≢false (sym k))
+    by_last rest counted (at_least ds) k = absurd (true≢false (sym k))
+    by_last rest counted (from_to ds es) k = absurd (true≢false (sym k))
+
+-- a leaf does what its lexemes do
+leaf_same : (s : ParserStack) (l : Leaf) → take_lexemes lexeme_step s (leaf_lexemes false l) ≡ Some (leaf_step s l)
+leaf_same s (plain c) = refl
+leaf_same s dot = refl
+leaf_same s (escaped c) = refl
+leaf_same s (control_escape c) = refl
+leaf_same s (set_escape c) = refl
+leaf_same s (coded null_code) = refl
+leaf_same s (coded (letter_code c)) = refl
+leaf_same s (coded (byte_code ds)) = refl
+leaf_same s (coded (unit_code ds)) = refl
+leaf_same s (coded (pair_code ds es)) = refl
+leaf_same s (coded (point_code ds)) = refl
+leaf_same s (property_escape n e) = refl
+leaf_same s (numbered ds) = refl
+leaf_same s (calls_for n) = refl
+leaf_same s (bracketed n r e) = refl
+
+-- a quantifier does what one does that is no `?`, behind no quantifier
+quantifier_same : (s : ParserStack) (x : Last) (q : Quantifier) → lazied s q ≡ None → add_quantifier_behind s x ≡ repeated s x q
+quantifier_same s none q e = refl
+quantifier_same s atom q e = refl
+quantifier_same s counted q e = sym e
+
+-- and `?` behind any
+question_same : (s : ParserStack) (x : Last) → add_question_behind s x ≡ repeated s x zero_or_one
+question_same s none = refl
+question_same s atom = refl
+question_same s counted = refl
+
+-- so does each part
+part_same : (s : ParserStack) (p : Part) → take_lexemes lexeme_step s (lexemes false p) ≡ step s p
+part_same s bar = refl
+part_same s (edge e) = refl
+part_same s (leaf l) = leaf_same s l
+part_same s (opens (of_group capturing)) = refl
+part_same s (opens (of_group plain_group)) = refl
+part_same s (opens (of_group (named n))) = refl
+part_same s (opens (of_lookbehind b)) = refl
+part_same s (opens (of_lookahead b)) = refl
+part_same s closes = refl
+part_same s (repeats zero_or_more) = quantifier_same s s.last zero_or_more refl
+part_same s (repeats one_or_more) = quantifier_same s s.last one_or_more refl
+part_same s (repeats zero_or_one) = question_same s s.last
+part_same s (repeats (exactly ds)) = quantifier_same s s.last (exactly ds) refl
+part_same s (repeats (at_least ds)) = quantifier_same s s.last (at_least ds) refl
+part_same s (repeats (from_to ds es)) = quantifier_same s s.last (from_to ds es) refl
+
+-- and so do parts, one behind the other
+pub steps_same : (ps : List Part) (s : ParserStack) → part_steps false lexeme_step s ps ≡ steps s ps
+steps_same [] s = refl
+steps_same (p ∷ ps) s =
+    ap (option_and_then (λ t. part_steps false lexeme_step t ps)) (part_same s p) ∙ rest (steps_same ps) (step s p)
   where
-    -- by the last term
-    by_last : ((u : ParserStack) → is_some (shapes u.groups u.last ps) ≡ true → u.captures + captures ps < capture_limit → Goes u ps)
-        → (x : Last) → is_some (option_and_then (λ (z : Shape). shapes z.0 z.1 ps) (lazy_shape s.groups x)) ≡ true
-        → ((t : ParserStack) × (option_and_then (λ u. steps u ps) (lazied s x) ≡ Some t))
-    by_last rest none k = absurd (true≢false (sym k))
-    by_last rest atom k = absurd (true≢false (sym k))
-    by_last rest counted k = rest (with_last s none) k w
+    -- behind what the part leaves
+    rest : ((t : ParserStack) → part_steps false lexeme_step t ps ≡ steps t ps) → (o : Option ParserStack)
+        → option_and_then (λ t. part_steps false lexeme_step t ps) o ≡ option_and_then (λ t. steps t ps) o
+    rest f None = refl
+    rest f (Some t) = f t

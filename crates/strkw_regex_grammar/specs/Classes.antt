@@ -3,14 +3,14 @@
 -- the first: a `-` stands for itself at the beginning, behind a range, and before the closing
 -- bracket.
 use Rattle.std.specs.Prelude.{◌≡◌, ℕ, nat_le, Bool, true, false, List, [], ◌∷◌, ◌++◌, Option, Some}
-use Rattle.std.specs.Prelude.{None, is_some, if◌then◌else◌, ◌==◌}
+use Rattle.std.specs.Prelude.{None, if◌then◌else◌, ◌==◌}
 use Rattle.std.specs.Str.{byte}
-use Rattle.strkw_regex_grammar.specs.Escapes.{Escape, itself, control, set, escape}
-use Rattle.strkw_charset.specs.Properties.{Expression, property_of, property_spelling, IsExpression}
+use Rattle.strkw_regex_grammar.specs.Escapes.{Escape, itself, escape}
+use Rattle.strkw_charset.specs.Properties.{Expression, property_of, property_spelling}
 use Rattle.strkw_charset.specs.declared.tree.CharSet.{CharSet}
 use Rattle.strkw_charset.specs.declared.tree.CharSet.TheVariants.{Range, Property as PropertySet}
 use Rattle.strkw_charset.specs.declared.properties.Property.{Property}
-use Rattle.strkw_regex_grammar.specs.Codes.{Code, code_spelling, code_value, IsCode}
+use Rattle.strkw_regex_grammar.specs.Codes.{Code, code_spelling, code_value}
 use Rattle.strkw_charset.specs.Sets.{control_char, set_ranges}
 pub use Rattle.strkw_regex_grammar.specs.declared.tokens.ClassToken.{ClassToken}
 pub use Rattle.strkw_regex_grammar.specs.declared.tokens.ClassToken.TheVariants.{Closing as closing_bracket}
@@ -116,16 +116,6 @@ abbrev pub ending_spelling : Bool → List ℕ
 ending_spelling false = byte "]" ∷ []
 ending_spelling true = byte "-" ∷ byte "]" ∷ []
 
-abbrev pub IsClassAtom : ClassAtom → Type 0
-IsClassAtom (class_plain c) = class_token c ≡ class_char
-IsClassAtom hyphen = Unit {0}
-IsClassAtom (class_escaped c) = class_escape c ≡ itself
-IsClassAtom (class_control c) = class_escape c ≡ control
-IsClassAtom (class_set c) = class_escape c ≡ set
-IsClassAtom backspace = Unit {0}
-IsClassAtom (class_coded k) = IsCode k
-IsClassAtom (class_property n e) = IsExpression e
-
 abbrev pub is_hyphen : ClassAtom → Bool
 is_hyphen hyphen = true
 is_hyphen x = false
@@ -151,10 +141,3 @@ MayEnd false r = Unit {0}
 MayEnd true no_ranges = ⊥
 MayEnd true (with_one r x) = Unit {0}
 MayEnd true (with_range r x y) = ⊥
-
-abbrev pub AreRanges : Bool → Ranges → Type 0
-AreRanges n no_ranges = Unit {0}
-AreRanges n (with_one r x) = AreRanges n r × IsClassAtom x × MayFollow n r x
-AreRanges n (with_range r x y) =
-    AreRanges n r × (IsClassAtom x × MayFollow n r x) × IsClassAtom y
-    × (is_some (range (item x) (item y)) ≡ true)

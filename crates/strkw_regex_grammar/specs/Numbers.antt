@@ -1,17 +1,13 @@
 -- Counts of a quantifier: DecimalDigits and their value (ECMA-262 2024, sections 22.2.1 and
 -- 22.2.2.7).
-use Rattle.std.specs.Prelude.{◌≡◌, ℕ, ◌+◌, ◌*◌, ◌-◌, ◌≤◌, nat_le, ◌==◌, Bool, true, ◌&&◌, List, []}
-use Rattle.std.specs.Prelude.{◌∷◌, Option, Some, None, is_some, if◌then◌else◌}
+use Rattle.std.specs.Prelude.{ℕ, ◌+◌, ◌*◌, ◌-◌, nat_le, ◌==◌, Bool, true, ◌&&◌, List, []}
+use Rattle.std.specs.Prelude.{◌∷◌, if◌then◌else◌}
 use Rattle.std.specs.Str.{byte}
 pub use Rattle.strkw_regex_grammar.specs.declared.tokens.CountToken.{CountToken}
 pub use Rattle.strkw_regex_grammar.specs.declared.tokens.CountToken.TheVariants.{Digit as digit}
 pub use Rattle.strkw_regex_grammar.specs.declared.tokens.CountToken.TheVariants.{Comma as comma}
 pub use Rattle.strkw_regex_grammar.specs.declared.tokens.CountToken.TheVariants.{Closing as closing_brace}
 pub use Rattle.strkw_regex_grammar.specs.declared.tokens.CountToken.TheVariants.{Other as no_count}
-
--- no count is greater
-abbrev pub max_count : ℕ
-max_count = 5000
 
 abbrev pub is_digit : ℕ → Bool
 is_digit c = nat_le (byte "0") c && nat_le c (byte "9")
@@ -26,14 +22,6 @@ number_from v (d ∷ ds) = number_from (v * 10 + (d - byte "0")) ds
 
 abbrev pub number : List ℕ → ℕ
 number = number_from 0
-
--- the number, where there are digits
-abbrev pub number_of : List ℕ → Option ℕ
-number_of [] = None
-number_of (d ∷ ds) = Some (number (d ∷ ds))
-
-abbrev pub IsNumber : List ℕ → Type 0
-IsNumber ds = (are_digits ds ≡ true) × (is_some (number_of ds) ≡ true) × (number ds ≤ max_count)
 
 -- what a character is in a count
 abbrev pub count_token : ℕ → CountToken

@@ -26,10 +26,12 @@ use Rattle.strkw_regex_grammar.specs.Syntax.{one_or_more, zero_or_one, exactly, 
 use Rattle.strkw_regex_grammar.specs.Syntax.{quantifier_spelling, Greed, greedy, lazy, Group}
 use Rattle.strkw_regex_grammar.specs.Syntax.{capturing, named, Enclosing, of_group, of_lookbehind}
 use Rattle.strkw_regex_grammar.specs.Syntax.{of_lookahead, enclosing_spelling, IsEnclosing}
-
 -- Assertion with no Disjunction in it
-pub data Edge : Type 0 where
-  at_start at_end at_boundary at_no_boundary : Edge
+pub use Rattle.strkw_regex_grammar.specs.declared.tokens.Edge.{Edge}
+pub use Rattle.strkw_regex_grammar.specs.declared.tokens.Edge.TheVariants.{Start as at_start}
+pub use Rattle.strkw_regex_grammar.specs.declared.tokens.Edge.TheVariants.{End as at_end}
+pub use Rattle.strkw_regex_grammar.specs.declared.tokens.Edge.TheVariants.{Boundary as at_boundary}
+pub use Rattle.strkw_regex_grammar.specs.declared.tokens.Edge.TheVariants.{NoBoundary as at_no_boundary}
 
 -- Atom with no Disjunction in it: PatternCharacter; `.`; of AtomEscape IdentityEscape,
 -- ControlEscape, a letter of CharacterClassEscape, the other escapes of CharacterEscape, a
@@ -46,7 +48,7 @@ pub data Leaf : Type 0 where
   called : List NameChar → Leaf
   bracketed : Bool → Ranges → Bool → Leaf
 
--- what stands in a pattern from left to right; `lazily` is the `?` behind a QuantifierPrefix
+-- what stands in a pattern from left to right
 pub data Part : Type 0 where
   bar : Part
   edge : Edge → Part
@@ -54,7 +56,6 @@ pub data Part : Type 0 where
   opens : Enclosing → Part
   closes : Part
   repeats : Quantifier → Part
-  lazily : Part
 
 mutual
   -- Disjunction: the first alternative, or more of them before the last
@@ -80,9 +81,10 @@ mutual
     single : Leaf → Atom
     group : Group → Disjunction → Atom
 
+-- the `?` that makes a quantifier lazy is the part that it is behind an atom
 abbrev pub greed_parts : Greed → List Part
 greed_parts greedy = []
-greed_parts lazy = lazily ∷ []
+greed_parts lazy = repeats zero_or_one ∷ []
 
 abbrev mutual
   pub parts : Disjunction → List Part
@@ -130,7 +132,6 @@ part_spelling (leaf l) = leaf_spelling l
 part_spelling (opens e) = enclosing_spelling e
 part_spelling closes = byte ")" ∷ []
 part_spelling (repeats q) = quantifier_spelling q
-part_spelling lazily = byte "?" ∷ []
 
 abbrev pub spelling : List Part → List ℕ
 spelling [] = []
@@ -191,7 +192,7 @@ ends_in_lead (with_one r x) = is_lead_item x
 ends_in_lead (with_range r x y) = is_lead_item y
 
 -- a leading surrogate directly before a trailing one is one escape with it (22.2.1,
--- RegExpUnicodeEscapeSequence). Outside a class that makes no difference to what is a pattern
+-- RegExpUnicodeEscapeSequence)
 abbrev pub MayStandBehind : Bool → Ranges → ClassAtom → Type 0
 MayStandBehind n r x = MayFollow n r x × ((ends_in_lead r && is_trail_item x) ≡ false)
 
@@ -226,20 +227,30 @@ IsPart (leaf l) = IsLeaf l
 IsPart (opens e) = IsEnclosing e
 IsPart closes = Unit {0}
 IsPart (repeats q) = IsRepetition q
-IsPart lazily = Unit {0}
 
 abbrev pub begins_with_digit : List ℕ → Bool
 begins_with_digit [] = false
 begins_with_digit (c ∷ cs) = is_digit c
 
--- no digit follows a DecimalEscape: it has all that there are
-abbrev pub MayPrecede : Part → List ℕ → Type 0
-MayPrecede (leaf (numbered ds)) rest = begins_with_digit rest ≡ false
-MayPrecede p rest = Unit {0}
+-- `\u` and four digits of a leading surrogate, and of a trailing one at the beginning
+abbrev pub is_lead_code : Code → Bool
+is_lead_code (unit_code ds) = is_lead (hex_number ds)
+is_lead_code k = false
+
+abbrev pub begins_with_trail : List Part → Bool
+begins_with_trail (leaf (coded (unit_code ds)) ∷ ps) = is_trail (hex_number ds)
+begins_with_trail ps = false
+
+-- no digit follows a DecimalEscape: it has all that there are. And a leading surrogate directly
+-- before a trailing one is one escape with it, as in a class
+abbrev pub MayPrecede : Part → List Part → Type 0
+MayPrecede (leaf (numbered ds)) ps = begins_with_digit (spelling ps) ≡ false
+MayPrecede (leaf (coded k)) ps = (is_lead_code k && begins_with_trail ps) ≡ false
+MayPrecede p ps = Unit {0}
 
 abbrev pub AreParts : List Part → Type 0
 AreParts [] = Unit {0}
-AreParts (p ∷ ps) = IsPart p × MayPrecede p (spelling ps) × AreParts ps
+AreParts (p ∷ ps) = IsPart p × MayPrecede p ps × AreParts ps
 
 -- CountLeftCapturingParensWithin (section 22.2.1.2)
 abbrev pub captures : List Part → ℕ

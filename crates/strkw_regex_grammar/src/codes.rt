@@ -1,4 +1,4 @@
-//! Escapes that give a character by a number, read character by character behind their letter.
+//! Escapes with `\u` in a name, read character by character behind their letter, and digits of any escape by a number.
 
 ghost use Rattle.std.specs.Prelude.{◌≡◌};
 ghost use Rattle.strkw_regex_grammar.specs.machine.CodeMakers.{pair_value as spec_pair_value, hex_with};
@@ -8,10 +8,9 @@ ghost use Rattle.strkw_regex_grammar.specs.machine.CodeParts.{width_of, coding_o
 
 const MAX_CODE_POINT: u32 = 0x10FFFF;
 
-// What a number of so many digits is: that of `\x`, of `\u`, or of `\u` behind a leading surrogate.
+// What a number of four digits is: that of `\u`, or of `\u` behind a leading surrogate.
 #[derive(Clone, Copy)]
 pub enum Width {
-    Byte,
     Unit,
     Trail(u16),
 }
@@ -25,11 +24,10 @@ pub enum Wanted {
     Four,
 }
 
-// What has been read: `\c`; `\u`; digits, as the number that they make; a leading surrogate; that and a backslash;
-// `\u{` and digits.
+// What has been read: `\u`; digits, as the number that they make; a leading surrogate; that and a backslash; `\u{` and
+// digits.
 #[derive(Clone, Copy)]
 pub enum Coding {
-    Letter,
     UnitOpened,
     Digits(Width, Wanted, u32),
     Lead(u16),
@@ -56,7 +54,7 @@ fn make(number: u32) -> Coded
 }
 
 // Of a leading and a trailing surrogate.
-pub(crate) fn pair(lead: u16, trail: u16) -> u32
+pub fn pair(lead: u16, trail: u16) -> u32
     ensures { result ≡ spec_pair_value lead trail }
 {
     u32::from(lead.saturating_sub(0xD800)) * 0x400
@@ -86,7 +84,6 @@ impl Width {
         ensures { coded_of result ≡ spec_read_all (width_of self) number }
     {
         match self {
-            Width::Byte => make(number),
             Width::Unit => {
                 if 0xD800 <= number && number <= 0xDBFF {
                     Coded::Goes(Coding::Lead(number as u16))
@@ -141,7 +138,6 @@ impl Coding {
         ensures { coded_of result ≡ coding_next (coding_of self) c }
     {
         match self {
-            Coding::Letter if c.is_ascii_alphabetic() => make(u32::from(c) % 32),
             Coding::UnitOpened if c == '{' => Coded::Goes(Coding::PointOpened(None)),
             Coding::UnitOpened => Width::Unit.take_digit(Wanted::Four, 0, c),
             Coding::Digits(width, wanted, number) => width.take_digit(wanted, number, c),

@@ -3,6 +3,8 @@
 #![tactic(auto)]
 
 pub mod codes;
+pub mod lexemes;
+pub mod lexer;
 pub mod names;
 pub mod null_escape;
 mod recogniser;

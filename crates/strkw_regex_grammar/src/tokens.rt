@@ -49,6 +49,15 @@ impl Token {
     }
 }
 
+// An assertion that looks at the characters beside it.
+#[derive(Clone, Copy)]
+pub enum Edge {
+    Start,
+    End,
+    Boundary,
+    NoBoundary,
+}
+
 // What a character is behind a backslash.
 #[derive(Clone, Copy)]
 pub enum Escape {

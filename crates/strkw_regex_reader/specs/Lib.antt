@@ -1,5 +1,5 @@
 pub mod Patterns
-pub mod WellFormed
+pub mod Limits
 pub mod Refusals
--- How the code reads and searches.
+-- How the code reads.
 pub mod machine

@@ -3,17 +3,18 @@ use Rattle.std.specs.Prelude.{◌≡◌, ◌⊎◌, ℕ, zero, suc, ◌*◌, ◌
 use Rattle.std.specs.Prelude.{◌++◌, length, codes}
 use Rattle.std.specs.Str.{byte}
 use Rattle.strkw_text.specs.Characters.{is_one_of}
-use Rattle.strkw_regex_grammar.specs.Numbers.{number, are_digits, IsNumber, max_count}
+use Rattle.strkw_regex_grammar.specs.Numbers.{number, are_digits}
 use Rattle.strkw_charset.specs.Properties.{Expression, has_property_chars, property_spelling}
 use Rattle.strkw_charset.specs.Properties.{is_unknown}
 use Rattle.strkw_regex_core.specs.Size.{steps, max_term_steps, max_steps}
 use Rattle.strkw_regex_reader.specs.Patterns.{pattern, atom_pattern, times}
 use Rattle.strkw_regex_core.specs.Times.{copies}
 use Rattle.strkw_regex_core.specs.LeadingLookahead.{parts, steps_of_parts}
-use Rattle.strkw_regex_grammar.specs.Syntax.{Disjunction, spelling, Enclosing, enclosing_spelling}
-use Rattle.strkw_regex_grammar.specs.Syntax.{Atom, atom_spelling, Quantifier, quantifier_spelling}
-use Rattle.strkw_regex_grammar.specs.Syntax.{max_nesting, max_length, IsEnclosing}
-use Rattle.strkw_regex_reader.specs.WellFormed.{IsWellFormed, IsAtom}
+use Rattle.strkw_regex_grammar.specs.Syntax.{Enclosing, enclosing_spelling, IsEnclosing, Quantifier}
+use Rattle.strkw_regex_grammar.specs.Syntax.{quantifier_spelling}
+use Rattle.strkw_regex_grammar.specs.Regex.{Disjunction, Atom, parts as parts_of, atom_parts, spelling}
+use Rattle.strkw_regex_grammar.specs.Regex.{AreParts, AreDecimal, IsRepetition}
+use Rattle.strkw_regex_reader.specs.Limits.{max_count, max_nesting, max_length, takes, takes_atom_of}
 use Rattle.strkw_regex_grammar.specs.Regex.{IsRegex}
 use Rattle.strkw_regex_reader.specs.declared.refusals.PatternRefusal.{PatternRefusal}
 use Rattle.strkw_regex_reader.specs.declared.refusals.PatternRefusal.TheVariants.{BackReference}
@@ -26,14 +27,21 @@ use Rattle.strkw_regex_reader.specs.declared.refusals.PatternRefusal.TheVariants
 use Rattle.strkw_regex_reader.specs.declared.refusals.PatternRefusal.TheVariants.{NotAPattern}
 use Rattle.strkw_regex_reader.specs.declared.refusals.PatternRefusal.TheVariants.{NotTaken}
 
+-- within n groups and lookarounds, a part of a pattern that is taken, as it is written
+abbrev pub IsTaken : ℕ → Disjunction → Type 0
+IsTaken n d = AreParts (parts_of d) × (takes n d ≡ true)
+
+abbrev pub written : Disjunction → List ℕ
+written d = spelling (parts_of d)
+
 -- what a pattern may begin with, up to where a term may stand: n groups and lookarounds are open,
 -- one in another, with alternatives before each and behind the last
 abbrev pub IsBeginning : ℕ → List ℕ → Type 0
-IsBeginning zero text = (d : Disjunction) × IsWellFormed 0 d × (spelling d ≡ text)
+IsBeginning zero text = (d : Disjunction) × IsTaken 0 d × (written d ≡ text)
 IsBeginning (suc n) text =
     (outer : List ℕ) × (g : Enclosing) × (d : Disjunction)
-    × IsBeginning n outer × IsEnclosing g × IsWellFormed (suc n) d
-    × ((outer ++ enclosing_spelling g) ++ spelling d ≡ text)
+    × IsBeginning n outer × IsEnclosing g × IsTaken (suc n) d
+    × ((outer ++ enclosing_spelling g) ++ written d ≡ text)
 
 -- this stands in the text
 abbrev pub Has : List ℕ → List ℕ → Type 0
@@ -61,7 +69,8 @@ is_needlessly_escaped = is_one_of (codes "!\"#%&',-:;<=>@_`~")
 abbrev pub HasGreatCount : List ℕ → List ℕ → Type 0
 HasGreatCount text ds =
     HasTerm (byte "{" ∷ ds) text
-    ⊎ ((es : List ℕ) × IsNumber es × HasTerm (byte "{" ∷ (es ++ byte "," ∷ ds)) text)
+    ⊎ ((es : List ℕ) × AreDecimal es × (number es ≤ max_count)
+    × HasTerm (byte "{" ∷ (es ++ byte "," ∷ ds)) text)
 
 abbrev pub IsTooLong : List ℕ → Type 0
 IsTooLong text = max_length < length text
@@ -83,11 +92,12 @@ IsReason text CountTooGreat =
     (ds : List ℕ) × (are_digits ds ≡ true) × (max_count < number ds) × HasGreatCount text ds
 IsReason text TermTooLarge =
     (n : ℕ) × (a : Atom) × (q : Quantifier)
-    × IsAtom n a × (max_term_steps < copies (times q) * steps (atom_pattern a))
-    × HasTermWithin n (atom_spelling a ++ quantifier_spelling q) text
+    × AreParts (atom_parts a) × (takes_atom_of n a ≡ true) × IsRepetition q
+    × (max_term_steps < copies (times q) * steps (atom_pattern a))
+    × HasTermWithin n (spelling (atom_parts a) ++ quantifier_spelling q) text
 -- the whole is well formed
 IsReason text TooLarge =
-    (d : Disjunction) × IsWellFormed 0 d × (spelling d ≡ text)
+    (d : Disjunction) × IsTaken 0 d × (written d ≡ text)
     × (max_steps < steps_of_parts (parts (pattern d)))
 IsReason text NotAPattern = IsRegex text → ⊥
 -- a pattern, and the engine does not take a part of it

@@ -1,8 +1,6 @@
--- What the code holds, step by step.
-pub mod Tokens
-pub mod Taken
-pub mod ParserActions
-pub mod Makers
+-- What the code holds, lexeme by lexeme.
+pub mod Building
+pub mod BuilderParts
 pub mod Reading
-pub mod Parts
 pub mod RefusalParts
+pub mod Taken

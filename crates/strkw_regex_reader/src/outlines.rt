@@ -43,7 +43,7 @@ pub(crate) fn set(alloc: Global, c: char) -> Result<CountedRegex, AllocError>
 }
 
 // The characters with a property, or without it.
-pub(crate) fn property_outline(
+pub(crate) fn property(
     alloc: Global,
     lacked: bool,
     property: Property,

@@ -1,7 +1,7 @@
 //! The reasons for which a pattern is not taken.
 
-use crate::counts::MAX_COUNT;
-use crate::reader::{MAX_LENGTH, MAX_NESTING};
+use crate::builder::{MAX_COUNT, MAX_NESTING};
+use crate::reader::MAX_LENGTH;
 use std::error::Error;
 use std::fmt;
 use strkw_regex_core::size::{MAX_STEPS, MAX_TERM_STEPS};
@@ -31,6 +31,13 @@ pub enum PatternRefusal {
     NotAPattern,
     /// It is a pattern of ECMA-262, of which a part is not taken here, as an escape of a surrogate alone.
     NotTaken,
+}
+
+// Whether what comes next is taken, or else why not, where a reason is told.
+#[derive(Clone, Copy)]
+pub enum Taken {
+    Takes,
+    Refuses(Option<PatternRefusal>),
 }
 
 /// In words that fit behind "the pattern is not taken: ", as `it has a back reference`.

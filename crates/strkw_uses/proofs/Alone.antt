@@ -17,7 +17,7 @@ use Rattle.strkw_keywords.specs.Demands.{found_by_outcome}
 use Rattle.strkw_keywords.specs.Errors.{reports_of, NodeReports}
 use Rattle.strkw_keywords.specs.Object.{Settings, Entry, nothing, engine_entry, Keyed, keywords, AreEntriesOf, AreEntries, all_assertions, refusal, Errors}
 use Rattle.strkw_keywords.specs.Object.{FirstRefusal}
-use Rattle.strkw_regex_grammar.specs.Syntax.{Disjunction}
+use Rattle.strkw_regex_grammar.specs.Regex.{Disjunction}
 use Rattle.strkw_regex_reader.specs.Patterns.{pattern}
 use Rattle.strkw_regex_core.specs.Meaning.{Found}
 use Rattle.strkw_ecma.specs.Laws.{IsPattern, IsExact}

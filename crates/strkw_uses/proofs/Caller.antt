@@ -15,7 +15,7 @@ use Rattle.strkw_keywords.specs.Object.{Settings, default_options, Errors}
 use Rattle.strkw_object.specs.declared.strings.StringKeywords.{StringKeywords}
 use Rattle.strkw_object.specs.Compiled.{keywords_assertions, IsCompiledFrom}
 use Rattle.strkw_report.specs.Standings.{root_site}
-use Rattle.strkw_regex_grammar.specs.Syntax.{Disjunction}
+use Rattle.strkw_regex_grammar.specs.Regex.{Disjunction}
 use Rattle.strkw_ecma.specs.Laws.{IsPattern}
 use Rattle.strkw_regex_reader.specs.machine.Taken.{takes_pattern}
 use Rattle.strkw_ecma.specs.machine.Outcomes.{pattern_outcome}

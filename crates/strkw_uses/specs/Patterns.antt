@@ -12,7 +12,7 @@ use Rattle.strkw_keywords.specs.Keywords.{keyword_name}
 use Rattle.strkw_keywords.specs.Meanings.{Lists}
 use Rattle.strkw_keywords.specs.Places.{Place, standing}
 use Rattle.strkw_keywords.specs.Object.{Settings, default_options, Errors, FirstRefusal}
-use Rattle.strkw_regex_grammar.specs.Syntax.{Disjunction}
+use Rattle.strkw_regex_grammar.specs.Regex.{Disjunction}
 use Rattle.strkw_regex_reader.specs.Patterns.{pattern}
 use Rattle.strkw_regex_core.specs.Meaning.{Found}
 use Rattle.strkw_ecma.specs.Laws.{IsPattern}

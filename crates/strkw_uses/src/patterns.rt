@@ -9,7 +9,7 @@ ghost use Rattle.strkw_pattern.specs.Literal.{IsLiteral};
 ghost use Rattle.strkw_keywords.specs.Meanings.{Lists, no_lists};
 ghost use Rattle.strkw_keywords.specs.Places.{Place};
 ghost use Rattle.strkw_report.specs.Standings.{root_site};
-ghost use Rattle.strkw_regex_grammar.specs.Syntax.{Disjunction};
+ghost use Rattle.strkw_regex_grammar.specs.Regex.{Disjunction};
 ghost use Rattle.strkw_ecma.specs.Laws.{IsPattern};
 ghost use Rattle.strkw_uses.specs.Patterns.{pattern_alone, root_place, AreErrors, SaysItsPattern};
 

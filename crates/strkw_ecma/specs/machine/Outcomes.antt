@@ -4,20 +4,17 @@ use Rattle.strkw_pattern.specs.Matcher.{outcome_of}
 use Rattle.strkw_pattern.specs.declared.engine.Outcome.{Outcome}
 use Rattle.strkw_pattern.specs.declared.engine.Outcome.TheVariants.{NoMatch}
 use Rattle.strkw_regex_core.specs.Tree.{Pattern}
-use Rattle.strkw_regex_grammar.specs.Syntax.{Disjunction}
-use Rattle.strkw_regex_reader.specs.machine.Makers.{trees}
 use Rattle.strkw_regex_reader.specs.machine.Reading.{read_pattern}
 use Rattle.strkw_regex_core.specs.LeadingLookahead.{parts}
 use Rattle.strkw_regex_search.specs.machine.Search.{are_parts_found}
-use Rattle.strkw_regex_reader.specs.Patterns.{pattern}
 
 -- what the search of a pattern comes to
 abbrev pub search_outcome : Pattern → List ℕ → Outcome
 search_outcome p text = outcome_of (are_parts_found (parts p) text)
 
-abbrev pub outcome_of_read : Option Disjunction → List ℕ → Outcome
+abbrev pub outcome_of_read : Option Pattern → List ℕ → Outcome
 outcome_of_read None text = NoMatch
-outcome_of_read (Some d) text = search_outcome (pattern d) text
+outcome_of_read (Some p) text = search_outcome p text
 
 abbrev pub pattern_outcome : List ℕ → List ℕ → Outcome
-pattern_outcome source = outcome_of_read (read_pattern trees source)
+pattern_outcome source = outcome_of_read (read_pattern source)

@@ -9,9 +9,6 @@ pub record CodeMaker : Type 1 where
   pub with_hex_digit : Hex → ℕ → Option Hex
   pub hex_value : Hex → ℕ
   pub Code : Type 0
-  pub null_code : Code
-  pub letter_code : ℕ → Code
-  pub byte_code : Hex → Code
   pub unit_code : Hex → Code
   pub pair_code : Hex → Hex → Code
   pub point_code : Hex → Code

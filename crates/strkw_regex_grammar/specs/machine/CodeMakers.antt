@@ -1,9 +1,9 @@
--- Two makers of escapes by a number: one keeps the digits as they are written, the other, as the
+-- Two makers of escapes with `\u`: one keeps the digits as they are written, the other, as the
 -- code does, the number that they make.
-use Rattle.std.specs.Prelude.{ℕ, ◌+◌, ◌*◌, ◌-◌, ◌%◌, nat_le, Bool, true, false, ◌&&◌, List, [], ◌∷◌}
+use Rattle.std.specs.Prelude.{ℕ, ◌+◌, ◌*◌, ◌-◌, nat_le, Bool, true, false, ◌&&◌, List, [], ◌∷◌}
 use Rattle.std.specs.Prelude.{◌++◌, Option, Some, None}
 use Rattle.std.specs.Char.{digit_value}
-use Rattle.strkw_regex_grammar.specs.Codes.{Code, null_code, letter_code, byte_code, unit_code}
+use Rattle.strkw_regex_grammar.specs.Codes.{Code, unit_code}
 use Rattle.strkw_regex_grammar.specs.Codes.{pair_code, point_code, code_value, is_hex_digit}
 use Rattle.strkw_regex_grammar.specs.Codes.{hex_number, max_code_point}
 use Rattle.strkw_regex_grammar.specs.machine.CodeMaker.{CodeMaker}
@@ -28,9 +28,6 @@ code_trees = record {
   with_hex_digit = hex_digits;
   hex_value = hex_number;
   Code = Code;
-  null_code = null_code;
-  letter_code = letter_code;
-  byte_code = byte_code;
   unit_code = unit_code;
   pair_code = pair_code;
   point_code = point_code;
@@ -52,9 +49,6 @@ code_values = record {
   with_hex_digit = hex_with;
   hex_value = λ n. n;
   Code = ℕ;
-  null_code = 0;
-  letter_code = λ c. c % 32;
-  byte_code = λ n. n;
   unit_code = λ n. n;
   pair_code = pair_value;
   point_code = λ n. n;

@@ -1,6 +1,6 @@
 -- Escapes by a number as the code reads them: of the digits it holds their number.
-use Rattle.strkw_regex_grammar.specs.machine.CodeReading.{Width, byte_width, unit_width}
-use Rattle.strkw_regex_grammar.specs.machine.CodeReading.{trail_width, Coding, letter_awaited}
+use Rattle.strkw_regex_grammar.specs.machine.CodeReading.{Width, unit_width}
+use Rattle.strkw_regex_grammar.specs.machine.CodeReading.{trail_width, Coding}
 use Rattle.strkw_regex_grammar.specs.machine.CodeReading.{unit_opened, digits_of, lead_read}
 use Rattle.strkw_regex_grammar.specs.machine.CodeReading.{lead_escaped, point_opened, Coded, fails}
 use Rattle.strkw_regex_grammar.specs.machine.CodeReading.{goes, makes}
@@ -13,12 +13,10 @@ use Rattle.strkw_regex_grammar.specs.declared.codes.Coded.{Coded as CodeCoded}
 use Rattle.strkw_regex_grammar.specs.declared.codes.Coded.TheVariants as coded
 
 abbrev pub width_of : CodeWidth → Width code_values
-width_of width.Byte = byte_width
 width_of width.Unit = unit_width
 width_of (width.Trail n) = trail_width n
 
 abbrev pub coding_of : CodeCoding → Coding code_values
-coding_of coding.Letter = letter_awaited
 coding_of coding.UnitOpened = unit_opened
 coding_of (coding.Digits w n v) = digits_of (width_of w) n v
 coding_of (coding.Lead v) = lead_read v

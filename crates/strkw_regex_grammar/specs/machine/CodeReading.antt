@@ -1,6 +1,5 @@
--- How an escape by a number is read, behind its backslash and letter.
+-- How an escape with `\u` is read in a name, behind its backslash and letter.
 use Rattle.std.specs.Prelude.{ℕ, ◌==◌, Bool, true, false, Option, Some, None}
-use Rattle.std.specs.Char.{is_ascii_alphabetic}
 use Rattle.std.specs.Str.{byte}
 use Rattle.strkw_regex_grammar.specs.Codes.{is_lead, is_trail, is_scalar}
 use Rattle.strkw_regex_grammar.specs.machine.CodeMaker.{CodeMaker}
@@ -11,15 +10,15 @@ pub use Rattle.strkw_regex_grammar.specs.declared.codes.Wanted.TheVariants.{Two 
 pub use Rattle.strkw_regex_grammar.specs.declared.codes.Wanted.TheVariants.{Three as three_more}
 pub use Rattle.strkw_regex_grammar.specs.declared.codes.Wanted.TheVariants.{Four as four_more}
 
--- what a number of so many digits is: that of `\x`, of `\u`, or of `\u` behind a leading surrogate
+-- what a number of four digits is: that of `\u`, or of `\u` behind a leading surrogate
 pub data Width (M : CodeMaker) : Type 0 where
-  byte_width unit_width : Width M
+  unit_width : Width M
   trail_width : M.Hex → Width M
 
 -- the digits that have been read; a leading surrogate, behind which `\` is to come and then `u`;
 -- behind `\u{`
 pub data Coding (M : CodeMaker) : Type 0 where
-  letter_awaited unit_opened : Coding M
+  unit_opened : Coding M
   digits_of : Width M → Wanted → M.Hex → Coding M
   lead_read : M.Hex → Coding M
   lead_escaped : M.Hex → Coding M
@@ -48,7 +47,6 @@ with_lead {M} ds false = make (M.unit_code ds)
 with_lead ds true = goes (lead_read ds)
 
 abbrev pub read_all : {M : CodeMaker} → Width M → M.Hex → Coded M
-read_all {M} byte_width ds = make (M.byte_code ds)
 read_all {M} unit_width ds = with_lead ds (is_lead (M.hex_value ds))
 read_all {M} (trail_width ds) es =
     coded_if (is_trail (M.hex_value es)) (make (M.pair_code ds es))
@@ -85,7 +83,6 @@ on_point {M} o c false = point_digit (M.with_hex_digit (value_or M.no_hex o) c)
 on_point o c true = point_end o
 
 abbrev pub coding_next : {M : CodeMaker} → Coding M → ℕ → Coded M
-coding_next {M} letter_awaited c = coded_if (is_ascii_alphabetic c) (make (M.letter_code c))
 coding_next unit_opened c = on_unit c (c == byte "{")
 coding_next (digits_of w n ds) c = on_digit w n ds c
 coding_next (lead_read ds) c = coded_if (c == byte "\\") (goes (lead_escaped ds))

@@ -1,21 +1,18 @@
--- How the recogniser reads an escape by a number.
+-- How the lexer reads an escape by a number.
 use Rattle.std.specs.Prelude.{ℕ, ◌%◌, ◌==◌, Bool, true, false, Option, Some, None}
 use Rattle.std.specs.Char.{is_ascii_alphabetic}
 use Rattle.std.specs.Str.{byte}
 use Rattle.strkw_regex_grammar.specs.machine.CodeMakers.{hex_with}
 use Rattle.strkw_regex_grammar.specs.machine.CodeReading.{Wanted, one_more, two_more, three_more}
 use Rattle.strkw_regex_grammar.specs.machine.CodeReading.{four_more, value_or}
--- an escape by a number: `\u` with four digits, or another
-pub use Rattle.strkw_regex_grammar.specs.declared.recogniser.numbers.Form.{Form}
-pub use Rattle.strkw_regex_grammar.specs.declared.recogniser.numbers.Form.TheVariants.{Unit as unit_form}
-pub use Rattle.strkw_regex_grammar.specs.declared.recogniser.numbers.Form.TheVariants.{Other as other_form}
+use Rattle.strkw_regex_grammar.specs.machine.Lexemes.{Form, unit_form, other_form}
 -- a part of one, and what comes of one more character
-pub use Rattle.strkw_regex_grammar.specs.declared.recogniser.numbers.NumberPart.{NumberPart}
-use Rattle.strkw_regex_grammar.specs.declared.recogniser.numbers.NumberPart.TheVariants as number_parts
+pub use Rattle.strkw_regex_grammar.specs.declared.lexer.numbers.NumberPart.{NumberPart}
+use Rattle.strkw_regex_grammar.specs.declared.lexer.numbers.NumberPart.TheVariants as number_parts
 pub use number_parts.{Letter as letter_awaited, UnitOpened as unit_opened, Digits as digits_of}
 pub use number_parts.{PointOpened as point_opened}
-pub use Rattle.strkw_regex_grammar.specs.declared.recogniser.numbers.NumberRead.{NumberRead}
-use Rattle.strkw_regex_grammar.specs.declared.recogniser.numbers.NumberRead.TheVariants as number_reads
+pub use Rattle.strkw_regex_grammar.specs.declared.lexer.numbers.NumberRead.{NumberRead}
+use Rattle.strkw_regex_grammar.specs.declared.lexer.numbers.NumberRead.TheVariants as number_reads
 pub use number_reads.{Fails as no_number, Goes as number_goes, Makes as number_ends}
 
 -- escapes by a number

@@ -1,22 +1,16 @@
 //! What is known between two terms of a pattern.
 
 ghost use Rattle.std.specs.Prelude.{◌≡◌, Some, IfOk};
+ghost use Rattle.strkw_regex_grammar.specs.machine.LexerParts.{lexeme_of, opening_of};
 ghost use Rattle.strkw_regex_grammar.specs.machine.RecogniserParts.{standing_of};
-ghost use Rattle.strkw_regex_grammar.specs.machine.Recognising.{with_last, open_group, open_capture_within, with_name, add_call, add_reference};
+ghost use Rattle.strkw_regex_grammar.specs.machine.Recognising.{with_last, open_group, open_capture_within, with_name, add_call, add_reference, open_step, step};
 ghost use Rattle.strkw_regex_grammar.specs.machine.Recognising.{close_group, add_quantifier, add_question, when};
 
+use crate::lexemes::{Last, Lexeme, Opening};
 use std::alloc::{AllocError, Global};
 
 // There are fewer capturing groups.
 pub(super) const CAPTURE_LIMIT: u32 = 0xFFFF_FFFF;
-
-// The last term: none that a quantifier may follow, an atom, or an atom with its quantifier.
-#[derive(Clone, Copy)]
-pub enum Last {
-    None,
-    Atom,
-    Counted,
-}
 
 // Whether a quantifier may follow the end of each group and lookaround that is open, the innermost last; the last term;
 // how many groups capture; the greatest number that a back reference asks for; the names of the groups; and those that
@@ -131,5 +125,45 @@ impl ParserStack {
                 true
             }
         }
+    }
+
+    // Behind what opens a group or a lookaround.
+    fn begin(&mut self, opening: Opening) -> Result<bool, AllocError>
+        ensures { IfOk result (λ taken. when taken (Some (standing_of self.new))
+            ≡ open_step (standing_of self.old) (opening_of opening)) }
+    {
+        match opening {
+            Opening::Group => self.open(true)?,
+            Opening::Capture => return self.capture(),
+            Opening::Named(name) => {
+                self.add_name(name)?;
+                return self.capture();
+            }
+            Opening::Behind(_) | Opening::Ahead(_) => self.open(false)?,
+        }
+        Ok(true)
+    }
+
+    // Behind one more lexeme, where it may stand here.
+    pub(super) fn take(&mut self, lexeme: Lexeme) -> Result<bool, AllocError>
+        ensures { IfOk result (λ taken. when taken (Some (standing_of self.new))
+            ≡ step (standing_of self.old) (lexeme_of lexeme)) }
+    {
+        match lexeme {
+            Lexeme::Bar | Lexeme::Edge(_) => self.set_last(Last::None),
+            Lexeme::Char(_)
+            | Lexeme::Number(..)
+            | Lexeme::Dot
+            | Lexeme::Set(_)
+            | Lexeme::Property(..)
+            | Lexeme::Class(..) => self.set_last(Last::Atom),
+            Lexeme::Reference(number) => self.refer(number),
+            Lexeme::Call(name) => self.call(name)?,
+            Lexeme::Begins(opening) => return self.begin(opening),
+            Lexeme::Ends => return Ok(self.close()),
+            Lexeme::Repeats(_) => return Ok(self.quantify()),
+            Lexeme::Question => return Ok(self.question()),
+        }
+        Ok(true)
     }
 }

@@ -1,8 +1,7 @@
 -- Which patterns are taken.
 use Rattle.std.specs.Prelude.{ℕ, Bool, List, is_some}
-use Rattle.strkw_regex_reader.specs.machine.Makers.{trees}
 use Rattle.strkw_regex_reader.specs.machine.Reading.{read_pattern}
 
 -- the builder's: of the text of a pattern
 abbrev pub takes_pattern : List ℕ → Bool
-takes_pattern source = is_some (read_pattern trees source)
+takes_pattern source = is_some (read_pattern source)

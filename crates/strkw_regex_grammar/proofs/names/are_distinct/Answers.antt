@@ -1,6 +1,6 @@
 use Rattle.std.proofs.Common.{◌∙◌, sym, ap, map, Bool, not, ◌&&◌}
 use Rattle.strkw_regex_grammar.specs.Names.{are_distinct as spec_are_distinct}
-use Rattle.strkw_regex_grammar.proofs.Distinct.{distinct_by_first}
+use Rattle.strkw_regex_grammar.proofs.NameParts.{distinct_by_first}
 use Rattle.strkw_regex_grammar.proofs.names.are_distinct.Goals as goal
 
 pub returns-then-contains : goal.returns-then-contains

@@ -1,13 +1,15 @@
-use Rattle.std.proofs.Common.{◌≡◌, length, ◌≤◌}
+use Rattle.std.proofs.Common.{◌≡◌, length, ◌≤◌, drop, true}
 use Rattle.std.specs.Str.{chars}
-use Rattle.strkw_regex_grammar.specs.Syntax.{max_length}
-use Rattle.strkw_regex_reader.specs.machine.Parts.{parts_of}
-use Rattle.strkw_regex_reader.proofs.ReaderRefinement.{IsOnWay}
+use Rattle.strkw_regex_grammar.specs.machine.Lexing.{read_from}
+use Rattle.strkw_regex_reader.specs.Limits.{max_length}
+use Rattle.strkw_regex_reader.specs.machine.BuilderParts.{state_of}
+use Rattle.strkw_regex_reader.specs.machine.Building.{step}
+use Rattle.strkw_regex_reader.specs.machine.Reading.{initial}
 use Rattle.strkw_regex_reader.proofs.reader.Reader.read.Given as goal
 
 abbrev pub invariant-loop-c : goal.invariant-loop-c
 invariant-loop-c l = record {
   counted : l.count ≡ length l.yielded;
   short : length l.yielded ≤ max_length;
-  way : IsOnWay (parts_of l.self) (chars l.source) (length l.yielded);
+  way : read_from true step (state_of l.self) (drop (length l.yielded) (chars l.source)) ≡ read_from true step initial (chars l.source);
 }
