@@ -1,15 +1,16 @@
 -- An instance has at most one list of errors.
-use Rattle.std.proofs.Common.{◌≡◌, ◌↔◌, ℕ, zero, suc, List, [], ◌∷◌, ◌++◌, refl, sym, ap, ◌∙◌, Bool, true, false, Some, None, Option, map, IsTrue}
+use Rattle.std.proofs.Common.{◌≡◌, ◌↔◌, ℕ, zero, suc, List, [], ◌∷◌, ◌++◌, refl, sym, ap, ◌∙◌, subst, Bool, true, false, Some, None, Option, map, IsTrue}
 use Rattle.std.proofs.lemmas.Bool.{false≢true}
-use Rattle.std.specs.Prelude.{MatchOption, slice_get, if◌then◌else◌}
+use Rattle.std.specs.Prelude.{MatchOption, slice_get}
 use Rattle.serde_json.specs.Data.{Data}
-use Rattle.serde_json.specs.Find.{get, as_str}
+use Rattle.serde_json.specs.Find.{as_str}
 use Rattle.strkw_report.specs.declared.error.Site.{Site}
 use Rattle.strkw_keywords.specs.Laws.{ReportsAreDetermined}
 use Rattle.strkw_keywords.specs.Meanings.{Lists}
 use Rattle.neldrafi_schema.specs.Errors.{Error, of_text}
-use Rattle.neldrafi_schema.specs.Schemas.{Keyword, types, required, negation, properties, reference, string_keyword, malformed, Body, always, never, keywords, neither, Schema}
-use Rattle.neldrafi_schema.specs.Meaning.{Below, KeywordReports, KeywordsReport, PropertiesReport, SchemaReports, Reports, evaluated_below, property_below}
+use Rattle.neldrafi_schema.specs.Schemas.{Keyword, rule, string_keyword, malformed, Rule, Branch, Body, always, never, keywords, neither, Schema}
+use Rattle.neldrafi_schema.specs.Rules.{Target, applied, kinds, tested}
+use Rattle.neldrafi_schema.specs.Meaning.{AreVerdicts, Below, EachReports, KeywordReports, KeywordsReport, RuleReports, SchemaReports, Reports, error_of, site_of}
 
 -- two lists in two parts
 joined : {A : Type 0} (a b c d xs ys : List A) → xs ≡ a ++ b → ys ≡ c ++ d → a ≡ c → b ≡ d → xs ≡ ys
@@ -22,41 +23,42 @@ decided X true false p q = sym (q.1 (p.0 refl))
 decided X false true p q = p.1 (q.0 refl)
 decided X false false p q = refl
 
+-- the same is tested with the same verdicts
+pub verdicts_same : (below : Below) (site : Site) (word : List ℕ) (ts : List Target) (vs ws : List Bool) → AreVerdicts below site word ts vs → AreVerdicts below site word ts ws → vs ≡ ws
+verdicts_same below site word [] vs ws p q = p ∙ sym q
+verdicts_same below site word (t ∷ ts) vs ws (v, a, p, ps, e) (w, b, q, qs, f) =
+    let one = decided _ v w p q in
+    let rest = verdicts_same below site word ts a b ps qs in
+    rw (e, f, one, rest) refl
+
 module _ (once : ReportsAreDetermined) (lists : Lists) (below : Below) (same : (n : ℕ) (d : Data) (site : Site) (es fs : List Error) → below n d site es → below n d site fs → es ≡ fs) where
-  value_same : (o : Option Data) (n : ℕ) (site : Site) (es fs : List Error) → MatchOption o (es ≡ []) (λ v. below n v site es)
-      → MatchOption o (fs ≡ []) (λ v. below n v site fs) → es ≡ fs
-  value_same None n site es fs p q = p ∙ sym q
-  value_same (Some v) n site es fs p q = same n v site es fs p q
+  each_same : (site : Site) (word : List ℕ) (ts : List Target) (es fs : List Error) → EachReports below site word ts es → EachReports below site word ts fs → es ≡ fs
+  each_same site word [] es fs p q = p ∙ sym q
+  each_same site word (t ∷ ts) es fs (a, b, p, ps, e) (c, d, q, qs, f) =
+      joined a b c d es fs e f (same t.schema t.value (site_of site word t) a c p q) (each_same site word ts b d ps qs)
 
-  properties_same : (ps : List (List ℕ × ℕ)) (d : Data) (site : Site) (es fs : List Error) → PropertiesReport below ps d site es
-      → PropertiesReport below ps d site fs → es ≡ fs
-  properties_same [] d site es fs p q = p ∙ sym q
-  properties_same (k ∷ ps) d site es fs (a, b, p, ps', e) (c, b', q, qs, f) =
-      joined a b c b' es fs e f (value_same (get k.0 d) k.1 (property_below site k.0) a c p q) (properties_same ps d site b b' ps' qs)
-
-  keyword_same : (location : List ℕ) (k : Keyword) (d : Data) (site : Site) (es fs : List Error) → KeywordReports below lists location k d site es
-      → KeywordReports below lists location k d site fs → es ≡ fs
-  keyword_same location (types ts) d site es fs p q = p ∙ sym q
-  keyword_same location (required names) d site es fs p q = p ∙ sym q
-  keyword_same location (negation n schema) d site es fs (v, p, e) (w, q, f) =
-      let one = decided _ v w p q in rw (e, f, one) refl
-  keyword_same location (properties ps) d site es fs p q = properties_same ps d site es fs p q
-  keyword_same location (reference n) d site es fs p q = same n d _ es fs p q
-  keyword_same location (string_keyword asserted) d site es fs (rs, p, e) (others, q, f) =
+  keyword_same : (location : List ℕ) (beside : List Keyword) (k : Keyword) (d : Data) (site : Site) (es fs : List Error) → KeywordReports below lists location beside k d site es
+      → KeywordReports below lists location beside k d site fs → es ≡ fs
+  keyword_same location beside (rule word r bs) d site es fs (vs, a, v, p, e) (ws, b, w, q, f) =
+      let one = verdicts_same below site word (tested r bs d) vs ws v w in
+      joined (map (error_of location site word d) (kinds beside word r d vs)) a (map (error_of location site word d) (kinds beside word r d ws)) b es fs e f
+      (ap (λ us. map (error_of location site word d) (kinds beside word r d us)) one)
+      (each_same site word (applied beside r bs d ws) a b (subst (λ us. EachReports below site word (applied beside r bs d us) a) one p) q)
+  keyword_same location beside (string_keyword asserted) d site es fs (rs, p, e) (others, q, f) =
       e ∙ ap (map of_text) (once asserted lists site (as_str d) rs others p q) ∙ sym f
-  keyword_same location (malformed name why) d site es fs p q = absurd p
+  keyword_same location beside (malformed path why) d site es fs p q = absurd p
 
-  keywords_same : (location : List ℕ) (ks : List Keyword) (d : Data) (site : Site) (es fs : List Error) → KeywordsReport below lists location ks d site es
-      → KeywordsReport below lists location ks d site fs → es ≡ fs
-  keywords_same location [] d site es fs p q = p ∙ sym q
-  keywords_same location (k ∷ ks) d site es fs (a, b, p, ps, e) (c, b', q, qs, f) =
-      joined a b c b' es fs e f (keyword_same location k d site a c p q) (keywords_same location ks d site b b' ps qs)
+  keywords_same : (location : List ℕ) (beside ks : List Keyword) (d : Data) (site : Site) (es fs : List Error) → KeywordsReport below lists location beside ks d site es
+      → KeywordsReport below lists location beside ks d site fs → es ≡ fs
+  keywords_same location beside [] d site es fs p q = p ∙ sym q
+  keywords_same location beside (k ∷ ks) d site es fs (a, b, p, ps, e) (c, b', q, qs, f) =
+      joined a b c b' es fs e f (keyword_same location beside k d site a c p q) (keywords_same location beside ks d site b b' ps qs)
 
   schema_same : (location : List ℕ) (body : Body) (d : Data) (site : Site) (es fs : List Error) → SchemaReports below lists location body d site es
       → SchemaReports below lists location body d site fs → es ≡ fs
   schema_same location always d site es fs p q = p ∙ sym q
   schema_same location never d site es fs p q = p ∙ sym q
-  schema_same location (keywords ks) d site es fs p q = keywords_same location ks d site es fs p q
+  schema_same location (keywords ks) d site es fs p q = keywords_same location ks ks d site es fs p q
   schema_same location neither d site es fs p q = absurd p
 
   there_same : (o : Option Schema) (d : Data) (site : Site) (es fs : List Error) → MatchOption o ⊥ (λ s. SchemaReports below lists s.location s.body d site es)

@@ -17,15 +17,15 @@ use Rattle.neldrafi_schema.specs.Paths.{Path, location_of, value_at}
 use Rattle.neldrafi_schema.specs.Reading.{BodySays, SchemaSays, Says, numbered_by}
 use Rattle.neldrafi_schema.specs.Refusals.{IsSaid, IsRefused, ends, problems, body_problems, schemas_endless, refused}
 use Rattle.neldrafi_schema.specs.Schemas.{Schema}
+use Rattle.neldrafi_schema.specs.Settings.{document_settings}
 use Rattle.neldrafi_schema.specs.machine.Compiled.{schemas_of, schema_of}
 use Rattle.neldrafi_schema.specs.machine.Places.{Extends, Grown, IsPlace, IsTable, paths_of, place_path}
 use Rattle.neldrafi_schema.specs.machine.Problems.{IsKept, Notes, problem_of}
 use Rattle.neldrafi_schema.specs.machine.Ready.{IsBodyReady, IsReady, RestsOn}
 use Rattle.neldrafi_schema.specs.machine.Said.{Reads}
-use Rattle.neldrafi_schema.proofs.Keeping.{extends_itself, extends_both, stays, problems_more, problems_stay}
+use Rattle.neldrafi_schema.proofs.Keeping.{all_more, extends_itself, extends_both, stays, problems_more, problems_stay}
 use Rattle.neldrafi_schema.proofs.Lists.{all_at, take_one}
 use Rattle.neldrafi_schema.proofs.Meaningful.{meaningful_schema, ends_same, endless_same, endless_alike, schemas_all, nil_first, nil_second}
-use Rattle.neldrafi_schema.proofs.Members.{all_more}
 use Rattle.neldrafi_schema.proofs.Ways.{IsBodyDown, all_ways_end, body_down}
 
 -- an element of a list with one more at its end
@@ -39,6 +39,10 @@ at_end (z ∷ xs) x y (suc n) e = further (at_end xs x y n e) where
   further (inr f) = inr (ap suc f.0, f.1)
 
 module _ {E : Type 0} (outcome : E → List ℕ → Outcome) (s : Settings) (document : Data) where
+  -- with the draft of the document
+  abbrev pub settled : Settings
+  settled = document_settings s document
+
   -- so many schemas were read
   pub record ReadDocument (places : Places) (nodes : List (Node E)) (first : Option Problem) (i : ℕ) : Type 0 where
     pub table : IsTable places
@@ -50,10 +54,10 @@ module _ {E : Type 0} (outcome : E → List ℕ → Outcome) (s : Settings) (doc
     pub located : map (λ t. t.location) said ≡ map location_of (take i (paths_of places.places.items))
     pub compiled : schemas_of outcome nodes ≡ map meaningful_schema said
     pub each : (all : List Path) → Extends (paths_of places.places.items) all → (n : ℕ) (path : Path) (t : Schema) → slice_get all n ≡ Some path
-        → slice_get said n ≡ Some t → SchemaSays (numbered_by all) s document path t.body
+        → slice_get said n ≡ Some t → SchemaSays (numbered_by all) settled document path t.body
     pub kept : IsKept (problems (paths_of places.places.items) said) first
     pub ready : (all : List Path) → Extends (paths_of places.places.items) all
-        → AllByRecursion (λ node. IsBodyReady (RestsOn outcome s.lists) (length all) node.body) nodes
+        → AllByRecursion (λ node. IsBodyReady outcome (RestsOn outcome s.lists) (length all) node.body) nodes
 
   pub nothing_read : (places : Places) → IsTable places → view places.document.now ≡ document → paths_of places.places.items ≡ [] ∷ []
       → ReadDocument places [] None 0
@@ -76,7 +80,7 @@ module _ {E : Type 0} (outcome : E → List ℕ → Outcome) (s : Settings) (doc
 
   module _ (places next : Places) (nodes more : List (Node E)) (first after : Option Problem) (i : ℕ) (place : Place) (node : Node E)
       (read : ReadDocument places nodes first i) (there : slice_get places.places.items i ≡ Some place) (grown : Grown places next)
-      (reads : Reads outcome s.lists (λ numbered body. BodySays numbered s document (place_path place) (view place.value.now) body) (place_path place)
+      (reads : Reads outcome s.lists (λ numbered body. BodySays numbered settled document (place_path place) (view place.value.now) body) (place_path place)
       (paths_of next.places.items) first after node.body) (located : node.location ≡ location_of (place_path place)) (longer : more ≡ nodes ++ node ∷ []) where
     abbrev old_paths : List Path
     old_paths = paths_of places.places.items
@@ -106,7 +110,7 @@ module _ {E : Type 0} (outcome : E → List ℕ → Outcome) (s : Settings) (doc
         ∙ take_one old_paths i path inside (sym (get_or_from_slice_get old_paths i path path found))
 
     each_more : (all : List Path) → Extends paths all → (n : ℕ) (other : Path) (t : Schema) → slice_get all n ≡ Some other
-        → (slice_get read.said n ≡ Some t) ⊎ ((n ≡ length read.said) × (schema ≡ t)) → SchemaSays (numbered_by all) s document other t.body
+        → (slice_get read.said n ≡ Some t) ⊎ ((n ≡ length read.said) × (schema ≡ t)) → SchemaSays (numbered_by all) settled document other t.body
     each_more all extends n other t e (inl f) = read.each all (extends_both old_paths paths all grown.extends extends) n other t e f
     each_more all extends n other t e (inr f) =
         let at : slice_get all n ≡ Some path = rw (f.0, read.count) (stays paths all i path extends (stays old_paths paths i path grown.extends found)) in
@@ -123,9 +127,9 @@ module _ {E : Type 0} (outcome : E → List ℕ → Outcome) (s : Settings) (doc
         ∙ ap (λ l. l ++ body_problems path reads.said)
         (ap (λ l. problems l read.said) grown.extends.longer ∙ problems_stay old_paths grown.extends.more read.said (omega (arith, inside, read.count)))
 
-    ready_more : (all : List Path) → Extends paths all → AllByRecursion (λ node. IsBodyReady (RestsOn outcome s.lists) (length all) node.body) more
+    ready_more : (all : List Path) → Extends paths all → AllByRecursion (λ node. IsBodyReady outcome (RestsOn outcome s.lists) (length all) node.body) more
     ready_more all extends =
-        rw longer (all_more (λ node. IsBodyReady (RestsOn outcome s.lists) (length all) node.body) nodes node
+        rw longer (all_more (λ node. IsBodyReady outcome (RestsOn outcome s.lists) (length all) node.body) nodes node
         (read.ready all (extends_both old_paths paths all grown.extends extends)) (reads.ready all extends))
 
     pub one_more : ReadDocument next more after (i + 1)
@@ -209,7 +213,7 @@ module _ {E : Type 0} (outcome : E → List ℕ → Outcome) (s : Settings) (doc
     down : (n : ℕ) (path : Path) (t : Schema) → slice_get paths_found n ≡ Some path → slice_get read.said n ≡ Some t → IsBodyDown paths_found path t.body
     down n path t at here =
         let says = read.each paths_found (extends_itself paths_found) n path t at here in
-        body_down paths_found s document path says.value t.body says.says
+        body_down paths_found settled document path says.value t.body says.says
 
     -- with none, it is said, and instances can be validated
     pub is_said : (end : ℕ → Bool) (after : Option Problem) → Ends end
@@ -225,7 +229,7 @@ module _ {E : Type 0} (outcome : E → List ℕ → Outcome) (s : Settings) (doc
           record {
             some = omega (arith, nodes_count, read.count, count_is, slice_get_within paths_found 0 [] read.root);
             end = λ n h. sym (same n) ∙ ends_alike end same n ∙ all_end n (omega (arith, nodes_count));
-            each = subst (λ count. AllByRecursion (λ node. IsBodyReady (RestsOn outcome s.lists) count node.body) nodes) (sym (nodes_count ∙ read.count ∙ count_is))
+            each = subst (λ count. AllByRecursion (λ node. IsBodyReady outcome (RestsOn outcome s.lists) count node.body) nodes) (sym (nodes_count ∙ read.count ∙ count_is))
                 (read.ready paths_found (extends_itself paths_found));
           },
         )

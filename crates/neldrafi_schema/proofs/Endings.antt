@@ -19,6 +19,7 @@ use Rattle.neldrafi_schema.specs.Meaning.{Reports, SchemaReports}
 use Rattle.neldrafi_schema.specs.Refusals.{ends, schema_ends, body_ends, keywords_end, in_place}
 use Rattle.neldrafi_schema.specs.machine.Compiled.{schemas_of, schema_of, body_of, keyword_of}
 use Rattle.neldrafi_schema.specs.machine.Said.{flag_at}
+use Rattle.neldrafi_schema.proofs.Fitting.{and_left, and_right}
 use Rattle.neldrafi_schema.proofs.Lists.{there}
 use Rattle.neldrafi_schema.proofs.Meaningful.{schema_ends_alike}
 
@@ -55,14 +56,6 @@ module _ {E : Type 0} (outcome : E → List ℕ → Outcome) (nodes : List (Node
       ≡ SchemaReports (Reports (schemas_of outcome nodes) lists steps) lists node.location (body_of outcome node.body) d site es
   unfolding Reports
   reports_there lists steps n node d site es h e = rw (schema_there n node h e) refl
-
-pub and_left : (a b : Bool) → (a && b) ≡ true → a ≡ true
-and_left true b e = refl
-and_left false b e = e
-
-pub and_right : (a b : Bool) → (a && b) ≡ true → b ≡ true
-and_right true b e = e
-and_right false b e = absurd (false≢true e)
 
 -- where keywords end, each of them does
 pub keyword_end : {K : Type 0} (of : K → Keyword) (end : ℕ → Bool) (ks : List K) (i : ℕ) (k : K) → keywords_end end (map of ks) ≡ true → i < length ks

@@ -4,17 +4,19 @@ use Rattle.std.proofs.lemmas.Bool.{false≢true}
 use Rattle.std.specs.Prelude.{MatchOption, slice_get}
 use Rattle.std.specs.List.{AllByRecursion}
 use Rattle.serde_json.specs.Data.{Data}
-use Rattle.serde_json.specs.Find.{get, as_str}
+use Rattle.serde_json.specs.Find.{as_str}
 use Rattle.strkw_report.specs.declared.error.Site.{Site}
 use Rattle.strkw_keywords.specs.Laws.{ReportsAreThere}
 use Rattle.strkw_keywords.specs.Meanings.{Lists}
 use Rattle.neldrafi_schema.specs.Errors.{Error, of_text}
-use Rattle.neldrafi_schema.specs.Schemas.{Keyword, types, required, negation, properties, reference, string_keyword, malformed, Body, always, never, keywords, neither, Schema}
-use Rattle.neldrafi_schema.specs.Meaning.{Below, KeywordReports, KeywordsReport, PropertiesReport, SchemaReports, Reports, property_below}
+use Rattle.neldrafi_schema.specs.Schemas.{Keyword, rule, string_keyword, malformed, Body, always, never, keywords, neither, Schema}
+use Rattle.neldrafi_schema.specs.Meaning.{AreVerdicts, Below, EachReports, KeywordReports, KeywordsReport, SchemaReports, Reports, site_of}
+use Rattle.neldrafi_schema.specs.Rules.{Target, applied, tested}
 use Rattle.neldrafi_schema.specs.machine.Ready.{steps_for}
 use Rattle.neldrafi_schema.specs.machine.Sound.{AreSound, IsSoundBody}
 use Rattle.neldrafi_schema.specs.Refusals.{ends, schema_ends}
-use Rattle.neldrafi_schema.proofs.Fitting.{ArePropertiesFine, Fits, IsBodyFine, IsKeywordFine, body_fits}
+use Rattle.neldrafi_schema.proofs.Fitting.{Fits, IsBodyFine, IsKeywordFine, body_fits}
+use Rattle.neldrafi_schema.proofs.Within.{Hold}
 
 -- it cannot be that there is none
 abbrev pub ThereIs : (List Error → Type 0) → Type 0
@@ -28,36 +30,33 @@ decides : (X : Type 0) → ((b : Bool) → (IsTrue b ↔ X) → ⊥) → ⊥
 decides X none = none false ((λ t. absurd (false≢true t)), (λ x. absurd (none true ((λ _. x), (λ _. refl)))))
 
 module _ (some : ReportsAreThere) (lists : Lists) (below : Below) (Fine : ℕ → Data → Type 0) (is : (n : ℕ) (d : Data) (site : Site) → Fine n d → ThereIs (below n d site)) where
-  value_is : (o : Option Data) (n : ℕ) (site : Site) → MatchOption o (Unit {0}) (λ v. Fine n v)
-      → ThereIs (λ es. MatchOption o (es ≡ []) (λ v. below n v site es))
-  value_is None n site fine none = none [] refl
-  value_is (Some v) n site fine none = is n v site fine none
+  verdicts_are : (site : Site) (word : List ℕ) (ts : List Target) → ((vs : List Bool) → AreVerdicts below site word ts vs → ⊥) → ⊥
+  verdicts_are site word [] none = none [] refl
+  verdicts_are site word (t ∷ ts) none = decides _ (λ v p. verdicts_are site word ts (λ vs q. none (v ∷ vs) (v, vs, p, q, refl)))
 
-  properties_are : (ps : List (List ℕ × ℕ)) (d : Data) (site : Site) → ArePropertiesFine Fine d ps → ThereIs (PropertiesReport below ps d site)
-  properties_are [] d site fine none = none [] refl
-  properties_are (k ∷ ps) d site fine none = value_is (get k.0 d) k.1 (property_below site k.0) fine.0
-      (λ es p. properties_are ps d site fine.1 (λ fs q. none (es ++ fs) (es, fs, p, q, refl)))
+  each_are : (site : Site) (word : List ℕ) (ts : List Target) → Hold Fine ts → ThereIs (EachReports below site word ts)
+  each_are site word [] fine none = none [] refl
+  each_are site word (t ∷ ts) fine none = is t.schema t.value (site_of site word t) fine.0
+      (λ es p. each_are site word ts fine.1 (λ fs q. none (es ++ fs) (es, fs, p, q, refl)))
 
-  keyword_is : (location : List ℕ) (k : Keyword) (d : Data) (site : Site) → IsKeywordFine Fine d k → ThereIs (KeywordReports below lists location k d site)
-  keyword_is location (types ts) d site fine none = none _ refl
-  keyword_is location (required names) d site fine none = none _ refl
-  keyword_is location (negation n schema) d site fine none = decides _ (λ v p. none _ (v, p, refl))
-  keyword_is location (properties ps) d site fine none = properties_are ps d site fine none
-  keyword_is location (reference n) d site fine none = is n d _ fine none
-  keyword_is location (string_keyword asserted) d site fine none =
+  keyword_is : (location : List ℕ) (beside : List Keyword) (k : Keyword) (d : Data) (site : Site) → IsKeywordFine Fine d beside k
+      → ThereIs (KeywordReports below lists location beside k d site)
+  keyword_is location beside (rule word r bs) d site fine none = verdicts_are site word (tested r bs d)
+      (λ vs v. each_are site word (applied beside r bs d vs) (fine.1 vs) (λ es p. none _ (vs, es, v, p, refl)))
+  keyword_is location beside (string_keyword asserted) d site fine none =
       some asserted lists site (as_str d) (λ rs p. none (map of_text rs) (rs, p, refl))
-  keyword_is location (malformed name why) d site fine none = fine
+  keyword_is location beside (malformed path why) d site fine none = fine
 
-  keywords_are : (location : List ℕ) (ks : List Keyword) (d : Data) (site : Site) → AllByRecursion (IsKeywordFine Fine d) ks
-      → ThereIs (KeywordsReport below lists location ks d site)
-  keywords_are location [] d site fine none = none [] refl
-  keywords_are location (k ∷ ks) d site fine none = keyword_is location k d site fine.0
-      (λ es p. keywords_are location ks d site fine.1 (λ fs q. none (es ++ fs) (es, fs, p, q, refl)))
+  keywords_are : (location : List ℕ) (beside ks : List Keyword) (d : Data) (site : Site) → AllByRecursion (IsKeywordFine Fine d beside) ks
+      → ThereIs (KeywordsReport below lists location beside ks d site)
+  keywords_are location beside [] d site fine none = none [] refl
+  keywords_are location beside (k ∷ ks) d site fine none = keyword_is location beside k d site fine.0
+      (λ es p. keywords_are location beside ks d site fine.1 (λ fs q. none (es ++ fs) (es, fs, p, q, refl)))
 
   pub schema_is : (location : List ℕ) (body : Body) (d : Data) (site : Site) → IsBodyFine Fine d body → ThereIs (SchemaReports below lists location body d site)
   schema_is location always d site fine none = none [] refl
   schema_is location never d site fine none = none _ refl
-  schema_is location (keywords ks) d site fine none = keywords_are location ks d site fine none
+  schema_is location (keywords ks) d site fine none = keywords_are location ks ks d site fine none
   schema_is location neither d site fine none = fine
 
 module _ (there : ReportsAreThere) (schemas : List Schema) (lists : Lists) (sound : AreSound schemas) where

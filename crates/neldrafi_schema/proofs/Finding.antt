@@ -5,12 +5,12 @@ use Rattle.std.specs.List.{All}
 use Rattle.std.specs.Map.{lookup}
 use Rattle.std.specs.Prelude.{option_and_then, option_map}
 use Rattle.std.specs.String.{string_cmp}
-use Rattle.serde_json.specs.Data.{Data, object, Members, no_members, member}
-use Rattle.serde_json.specs.Find.{get, get_member}
+use Rattle.serde_json.specs.Data.{Data, Members, no_members, member}
+use Rattle.serde_json.specs.Find.{get_member}
 use Rattle.serde_json.specs.View.{members_view, view}
 use Rattle.serde_json.specs.declared.value.Value.{Value}
 use Rattle.serde_json.proofs.Views.{view-lookup}
-use Rattle.neldrafi_schema.specs.Paths.{Path, value_at}
+use Rattle.neldrafi_schema.specs.Paths.{Path, Segment, child, value_at}
 
 abbrev pub IsAmong : List ℕ → Data → Members → Type 0
 IsAmong name d no_members = ⊥
@@ -25,15 +25,15 @@ all_found all (e ∷ es) found name d (inl (same, is)) =
     (sym (view-lookup (string_bytes e.0) all) ∙ ap (option_map view) (found 0 e (omega arith)) ∙ ap Some is)
 all_found all (e ∷ es) found name d (inr later) = all_found all es (λ k x lt. found (suc k) x (omega arith)) name d later
 
--- a member's value stands below its object
-pub value_below : (path : Path) (document : Data) (name : List ℕ) (ms : Members) (d : Data) → value_at path document ≡ Some (object ms) → get_member name ms ≡ Some d
-    → value_at (path ++ name ∷ []) document ≡ Some d
-value_below [] document name ms d there found =
-    let is : document ≡ object ms = cc in
+-- what is at a step of a value stands below it
+pub value_below : (path : Path) (document : Data) (s : Segment) (d v : Data) → value_at path document ≡ Some d → child s d ≡ Some v
+    → value_at (path ++ s ∷ []) document ≡ Some v
+value_below [] document s d v there found =
+    let is : document ≡ d = cc in
     rw (is, found) refl
-value_below (key ∷ path) document name ms d there found = further (get key document) there (λ v e. value_below path v name ms d e found) where
-  further : (o : Option Data) → option_and_then (value_at path) o ≡ Some (object ms)
-      → ((v : Data) → value_at path v ≡ Some (object ms) → value_at (path ++ name ∷ []) v ≡ Some d)
-      → option_and_then (value_at (path ++ name ∷ [])) o ≡ Some d
+value_below (first ∷ path) document s d v there found = further (child first document) there (λ w e. value_below path w s d v e found) where
+  further : (o : Option Data) → option_and_then (value_at path) o ≡ Some d
+      → ((w : Data) → value_at path w ≡ Some d → value_at (path ++ s ∷ []) w ≡ Some v)
+      → option_and_then (value_at (path ++ s ∷ [])) o ≡ Some v
   further None e below = cc
-  further (Some v) e below = below v e
+  further (Some w) e below = below w e

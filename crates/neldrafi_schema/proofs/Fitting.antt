@@ -1,37 +1,38 @@
 -- Steps that are enough for an instance.
-use Rattle.std.proofs.Common.{◌≡◌, ℕ, suc, ◌<◌, ◌≤◌, List, [], ◌∷◌, length, true, Some, None, Option, refl, arith}
-use Rattle.std.specs.Prelude.{MatchOption}
+use Rattle.std.proofs.Common.{◌≡◌, ℕ, suc, ◌<◌, ◌≤◌, List, [], ◌∷◌, map, length, Bool, true, false, Some, None, Option, refl, arith}
+use Rattle.std.proofs.lemmas.Bool.{false≢true}
+use Rattle.std.specs.Prelude.{◌&&◌, if◌then◌else◌}
 use Rattle.std.specs.List.{AllByRecursion, list_all}
 use Rattle.serde_json.specs.Data.{Data, depth}
-use Rattle.serde_json.specs.Find.{get}
-use Rattle.neldrafi_schema.specs.Schemas.{Keyword, types, required, negation, properties, reference, string_keyword, malformed}
+use Rattle.neldrafi_schema.specs.Schemas.{Keyword, rule, string_keyword, malformed, Rule, Branch}
 use Rattle.neldrafi_schema.specs.Schemas.{Body, always, never, keywords, neither, Schema}
+use Rattle.neldrafi_schema.specs.Rules.{applied, tested}
 use Rattle.neldrafi_schema.specs.Meaning.{enough}
 use Rattle.neldrafi_schema.specs.machine.Ready.{steps_for}
 use Rattle.neldrafi_schema.specs.machine.Sound.{AreSound, IsSoundBody, IsSoundKeyword}
-use Rattle.neldrafi_schema.specs.Refusals.{ends, body_ends, keywords_end, in_place}
-use Rattle.neldrafi_schema.proofs.Depth.{enough_steps, fewer_steps, value_depth}
-use Rattle.neldrafi_schema.proofs.Endings.{and_left, and_right}
+use Rattle.neldrafi_schema.specs.Refusals.{ends, body_ends, keywords_end, in_place, is_in_place, schemas_in}
+use Rattle.neldrafi_schema.proofs.Depth.{enough_steps, fewer_steps}
+use Rattle.neldrafi_schema.proofs.Within.{Deep, Hold, applied_hold, tested_hold}
+
+pub and_left : (a b : Bool) → (a && b) ≡ true → a ≡ true
+and_left true b e = refl
+and_left false b e = e
+
+pub and_right : (a b : Bool) → (a && b) ≡ true → b ≡ true
+and_right true b e = e
+and_right false b e = absurd (false≢true e)
 
 -- what is required of schemas at values, of all to which a schema leads
 module _ (Fine : ℕ → Data → Type 0) where
-  -- the values of properties are fine
-  abbrev pub ArePropertiesFine : Data → List (List ℕ × ℕ) → Type 0
-  ArePropertiesFine d ps = AllByRecursion (λ p. MatchOption (get p.0 d) (Unit {0}) (λ v. Fine p.1 v)) ps
-
-  abbrev pub IsKeywordFine : Data → Keyword → Type 0
-  IsKeywordFine d (types ts) = Unit {0}
-  IsKeywordFine d (required names) = Unit {0}
-  IsKeywordFine d (negation n schema) = Fine n d
-  IsKeywordFine d (properties ps) = ArePropertiesFine d ps
-  IsKeywordFine d (reference n) = Fine n d
-  IsKeywordFine d (string_keyword asserted) = Unit {0}
-  IsKeywordFine d (malformed name why) = ⊥
+  abbrev pub IsKeywordFine : Data → List Keyword → Keyword → Type 0
+  IsKeywordFine d beside (rule word r bs) = Hold Fine (tested r bs d) × ((vs : List Bool) → Hold Fine (applied beside r bs d vs))
+  IsKeywordFine d beside (string_keyword asserted) = Unit {0}
+  IsKeywordFine d beside (malformed path why) = ⊥
 
   abbrev pub IsBodyFine : Data → Body → Type 0
   IsBodyFine d always = Unit {0}
   IsBodyFine d never = Unit {0}
-  IsBodyFine d (keywords ks) = AllByRecursion (IsKeywordFine d) ks
+  IsBodyFine d (keywords ks) = AllByRecursion (IsKeywordFine d ks) ks
   IsBodyFine d neither = ⊥
 
 module _ (schemas : List Schema) (sound : AreSound schemas) where
@@ -39,43 +40,44 @@ module _ (schemas : List Schema) (sound : AreSound schemas) where
   abbrev pub Fits : ℕ → ℕ → Data → Type 0
   Fits k n d = (s : ℕ) × (ends schemas s n ≡ true) × (steps_for (length schemas) d s ≤ k)
 
-  property_fits : (o : Option Data) (k n s : ℕ) (d : Data) → ((v : Data) → o ≡ Some v → depth v < depth d) → n < length schemas
-      → steps_for (length schemas) d s ≤ suc k → 0 < s → MatchOption o (Unit {0}) (λ v. Fits k n v)
-  property_fits None k n s d less h fits some = tt
-  property_fits (Some v) k n s d less h fits some =
-      (length schemas, sound.end n h, omega (arith, fewer_steps (length schemas) (depth v) (depth d) 0 (less v refl)))
-
-  properties_fit : (k s : ℕ) (d : Data) (ps : List (List ℕ × ℕ)) → AllByRecursion (λ p. p.1 < length schemas) ps
-      → steps_for (length schemas) d s ≤ suc k → 0 < s → AllByRecursion (λ p. MatchOption (get p.0 d) (Unit {0}) (λ v. Fits k p.1 v)) ps
-  properties_fit k s d [] inside fits some = tt
-  properties_fit k s d (p ∷ ps) inside fits some =
-      (property_fits (get p.0 d) k p.1 s d (value_depth p.0 d) inside.0 fits some, properties_fit k s d ps inside.1 fits some)
-
   -- the document's
   pub enough_fits : (d : Data) → Fits (enough schemas d) 0 d
   enough_fits d = (length schemas, sound.end 0 sound.some, enough_steps (length schemas) (depth d))
 
   -- what a schema leads to fits in a step less
   module _ (k s : ℕ) (d : Data) (fits : steps_for (length schemas) d (suc s) ≤ suc k) where
-    keyword_fits : (key : Keyword) → IsSoundKeyword (length schemas) key → list_all (ends schemas s) (in_place key) ≡ true
-        → IsKeywordFine (Fits k) d key
-    keyword_fits (types ts) good e = tt
-    keyword_fits (required names) good e = tt
-    keyword_fits (negation n schema) good e = (s, and_left (ends schemas s n) true e, omega arith)
-    keyword_fits (properties ps) good e = properties_fit k (suc s) d ps good fits (omega arith)
-    keyword_fits (reference n) good e = (s, and_left (ends schemas s n) true e, omega arith)
-    keyword_fits (string_keyword asserted) good e = tt
-    keyword_fits (malformed name why) good e = good
+    here_fit : (bs : List Branch) → list_all (ends schemas s) (schemas_in bs) ≡ true → AllByRecursion (λ b. Fits k b.schema d) bs
+    here_fit [] e = tt
+    here_fit (b ∷ bs) e = ((s, and_left (ends schemas s b.schema) _ e, omega arith), here_fit bs (and_right (ends schemas s b.schema) _ e))
 
-    keywords_fit : (ks : List Keyword) → AllByRecursion (IsSoundKeyword (length schemas)) ks → keywords_end (ends schemas s) ks ≡ true
-        → AllByRecursion (IsKeywordFine (Fits k) d) ks
-    keywords_fit [] good e = tt
-    keywords_fit (key ∷ ks) good e =
-        (keyword_fits key good.0 (and_left _ _ e), keywords_fit ks good.1 (and_right (list_all (ends schemas s) (in_place key)) _ e))
+    deep_fit : (bs : List Branch) → AllByRecursion (λ b. b.schema < length schemas) bs → AllByRecursion (Deep (Fits k) d) bs
+    deep_fit [] inside = tt
+    deep_fit (b ∷ bs) inside =
+        ((λ v less. (length schemas, sound.end b.schema inside.0, omega (arith, fewer_steps (length schemas) (depth v) (depth d) 0 less))), deep_fit bs inside.1)
+
+    placed_end : (b : Bool) (bs : List Branch) → list_all (ends schemas s) (if b then schemas_in bs else []) ≡ true → b ≡ true
+        → list_all (ends schemas s) (schemas_in bs) ≡ true
+    placed_end true bs e h = e
+    placed_end false bs e h = absurd (false≢true h)
+
+    keyword_fits : (beside : List Keyword) (key : Keyword) → IsSoundKeyword (length schemas) key → list_all (ends schemas s) (in_place key) ≡ true
+        → IsKeywordFine (Fits k) d beside key
+    keyword_fits beside (rule word r bs) good e =
+        let here : is_in_place r ≡ true → AllByRecursion (λ b. Fits k b.schema d) bs = λ h. here_fit bs (placed_end (is_in_place r) bs e h) in
+        let below : is_in_place r ≡ false → AllByRecursion (Deep (Fits k) d) bs = λ h. deep_fit bs good in
+        (tested_hold (Fits k) d r bs here below, λ vs. applied_hold (Fits k) d beside r bs vs here below)
+    keyword_fits beside (string_keyword asserted) good e = tt
+    keyword_fits beside (malformed path why) good e = good
+
+    keywords_fit : (beside ks : List Keyword) → AllByRecursion (IsSoundKeyword (length schemas)) ks → keywords_end (ends schemas s) ks ≡ true
+        → AllByRecursion (IsKeywordFine (Fits k) d beside) ks
+    keywords_fit beside [] good e = tt
+    keywords_fit beside (key ∷ ks) good e =
+        (keyword_fits beside key good.0 (and_left _ _ e), keywords_fit beside ks good.1 (and_right (list_all (ends schemas s) (in_place key)) _ e))
 
     pub body_fits : (body : Body) → IsSoundBody (length schemas) body → body_ends (ends schemas s) body ≡ true
         → IsBodyFine (Fits k) d body
     body_fits always good e = tt
     body_fits never good e = tt
-    body_fits (keywords ks) good e = keywords_fit ks good e
+    body_fits (keywords ks) good e = keywords_fit ks ks good e
     body_fits neither good e = good

@@ -1,16 +1,15 @@
 -- The first of all problems, and places that stay.
 use Rattle.std.proofs.Common.{◌≡◌, ℕ, zero, suc, ◌+◌, ◌<◌, ◌≤◌, List, [], ◌∷◌, ◌++◌, length, map, refl, sym, ap, ◌∙◌, subst, arith, append_assoc, append-nil, Some, None, Option, Less, Equal, Greater, String, string_bytes, string_cmp, Bool, true, ◌==◌}
-use Rattle.std.proofs.lemmas.Cmp.{nat_list_cmp_total, lists_total, tied_itself}
+use Rattle.std.proofs.lemmas.Cmp.{nat_cmp_total, nat_list_cmp_total, lists_total, tied_itself}
 use Rattle.std.specs.Prelude.{slice_get}
 use Rattle.std.specs.declared.alloc.Global.{Global}
 use Rattle.std.specs.Cmp.{IsTotalOrder}
 use Rattle.std.specs.Cmp.Lexicographic.{slice_cmp}
-use Rattle.std.specs.Cmp.Derive.Mapped.{lex_map}
 use Rattle.std.specs.List.{AllByRecursion}
 use Rattle.std.specs.declared.cmp.Ordering.{Ordering}
 use Rattle.std.specs.Ordering.{nat_cmp, ordering_index, ordering_reverse}
 use Rattle.neldrafi_schema.specs.declared.problem.Problem.{Problem}
-use Rattle.neldrafi_schema.specs.Paths.{Path, path_cmp, StandsBefore}
+use Rattle.neldrafi_schema.specs.Paths.{Path, Segment, key, place, segment_cmp, path_cmp, StandsBefore}
 use Rattle.neldrafi_schema.specs.machine.Places.{Extends}
 use Rattle.neldrafi_schema.specs.machine.Problems.{IsKept, Notes, problem_of}
 use Rattle.neldrafi_schema.specs.Refusals.{IsFirst, body_problems, problems}
@@ -19,8 +18,31 @@ use Rattle.neldrafi_schema.specs.Schemas.{Schema}
 
 -- ---- the order of paths
 
+segments_antisymm : (a b : Segment) → segment_cmp a b ≡ ordering_reverse (segment_cmp b a)
+segments_antisymm (key a) (key b) = nat_list_cmp_total.antisymm a b
+segments_antisymm (key a) (place n) = refl
+segments_antisymm (place m) (key b) = refl
+segments_antisymm (place m) (place n) = nat_cmp_total.antisymm m n
+
+segments_trans : (a b c : Segment) → segment_cmp a b ≡ Less → segment_cmp b c ≡ Less → segment_cmp a c ≡ Less
+segments_trans (key a) (key b) (key c) p q = nat_list_cmp_total.trans a b c p q
+segments_trans (key a) (key b) (place n) p q = refl
+segments_trans (key a) (place m) (key c) p q = cc
+segments_trans (key a) (place m) (place n) p q = refl
+segments_trans (place m) (key b) c p q = cc
+segments_trans (place m) (place n) (key c) p q = cc
+segments_trans (place l) (place m) (place n) p q = nat_cmp_total.trans l m n p q
+
+segments_congr : (a b c : Segment) → segment_cmp a b ≡ Equal → segment_cmp a c ≡ segment_cmp b c
+segments_congr (key a) (key b) (key c) e = nat_list_cmp_total.congr a b c e
+segments_congr (key a) (key b) (place n) e = refl
+segments_congr (key a) (place m) c e = cc
+segments_congr (place m) (key b) c e = cc
+segments_congr (place m) (place n) (key c) e = refl
+segments_congr (place l) (place m) (place n) e = nat_cmp_total.congr l m n e
+
 pub paths_total : IsTotalOrder path_cmp
-paths_total = lists_total nat_list_cmp_total
+paths_total = lists_total (record { antisymm = segments_antisymm; trans = segments_trans; congr = segments_congr })
 
 reversed : (o : Ordering) → o ≡ ordering_reverse o → o ≡ Less → ⊥
 reversed Less e h = cc
@@ -30,15 +52,14 @@ reversed Greater e h = cc
 pub not_before_itself : (p : Path) → StandsBefore p p → ⊥
 not_before_itself p h = reversed (path_cmp p p) (paths_total.antisymm p p) h
 
--- the order of texts is that of their bytes
-pub paths_by_texts : (a b : List (String Global)) → path_cmp (map string_bytes a) (map string_bytes b) ≡ slice_cmp string_cmp a b
-paths_by_texts a b = lex_map string_bytes (slice_cmp nat_cmp) a b
-
 -- ---- what is noted
 
 pub all_both : {A : Type 0} (P : A → Type 0) (xs ys : List A) → AllByRecursion P xs → AllByRecursion P ys → AllByRecursion P (xs ++ ys)
 all_both P [] ys p q = q
 all_both P (x ∷ xs) ys p q = (p.0, all_both P xs ys p.1 q)
+
+pub all_more : {A : Type 0} (P : A → Type 0) (xs : List A) (x : A) → AllByRecursion P xs → P x → AllByRecursion P (xs ++ x ∷ [])
+all_more P xs x all p = all_both P xs (x ∷ []) all (p, tt)
 
 pub all_weaker : {A : Type 0} (P Q : A → Type 0) → ((a : A) → P a → Q a) → (xs : List A) → AllByRecursion P xs → AllByRecursion Q xs
 all_weaker P Q f [] p = tt

@@ -5,8 +5,8 @@ use Rattle.std.proofs.lemmas.Option.{slice_get-map}
 use Rattle.std.specs.Prelude.{◌&&◌, option_map, slice_get, if◌then◌else◌}
 use Rattle.std.specs.List.{list_all}
 use Rattle.neldrafi_schema.specs.Paths.{Path}
-use Rattle.neldrafi_schema.specs.Refusals.{Problem, ends, schema_ends, body_ends, keywords_end, in_place, keyword_endless, keywords_endless, body_endless, schemas_endless, problems, body_problems, keywords_problems}
-use Rattle.neldrafi_schema.specs.Schemas.{circular_reference, Keyword, types, required, negation, properties, reference, string_keyword, malformed, Body, always, never, neither, keywords, Schema}
+use Rattle.neldrafi_schema.specs.Refusals.{Problem, schemas_in, ends, schema_ends, body_ends, keywords_end, in_place, keyword_endless, keywords_endless, body_endless, schemas_endless, problems, body_problems, keywords_problems}
+use Rattle.neldrafi_schema.specs.Schemas.{circular_reference, Keyword, rule, string_keyword, malformed, Body, always, never, neither, keywords, Schema}
 use Rattle.neldrafi_schema.specs.machine.Said.{meaningful, meaningful_body}
 
 abbrev pub meaningful_schema : Schema → Schema
@@ -16,13 +16,9 @@ meaningful_schema t = record { location = t.location; body = meaningful_body t.b
 
 keywords_end_same : (end : ℕ → Bool) (ks : List Keyword) → keywords_end end (meaningful ks) ≡ keywords_end end ks
 keywords_end_same end [] = refl
-keywords_end_same end (types ts ∷ ks) = keywords_end_same end ks
-keywords_end_same end (required names ∷ ks) = keywords_end_same end ks
-keywords_end_same end (negation n schema ∷ ks) = ap (λ b. list_all end (n ∷ []) && b) (keywords_end_same end ks)
-keywords_end_same end (properties ps ∷ ks) = keywords_end_same end ks
-keywords_end_same end (reference n ∷ ks) = ap (λ b. list_all end (n ∷ []) && b) (keywords_end_same end ks)
+keywords_end_same end (rule w r bs ∷ ks) = ap (λ b. list_all end (in_place (rule w r bs)) && b) (keywords_end_same end ks)
 keywords_end_same end (string_keyword asserted ∷ ks) = keywords_end_same end ks
-keywords_end_same end (malformed name why ∷ ks) = keywords_end_same end ks
+keywords_end_same end (malformed below why ∷ ks) = keywords_end_same end ks
 
 body_ends_same : (end : ℕ → Bool) (body : Body) → body_ends end (meaningful_body body) ≡ body_ends end body
 body_ends_same end always = refl
@@ -64,13 +60,9 @@ ends_same ts (suc steps) n =
 
 keywords_endless_same : (end : ℕ → Bool) (path : Path) (ks : List Keyword) → keywords_endless end path (meaningful ks) ≡ keywords_endless end path ks
 keywords_endless_same end path [] = refl
-keywords_endless_same end path (types ts ∷ ks) = keywords_endless_same end path ks
-keywords_endless_same end path (required names ∷ ks) = keywords_endless_same end path ks
-keywords_endless_same end path (negation n schema ∷ ks) = keywords_endless_same end path ks
-keywords_endless_same end path (properties ps ∷ ks) = keywords_endless_same end path ks
-keywords_endless_same end path (reference n ∷ ks) = ap (λ l. keyword_endless end path (reference n) ++ l) (keywords_endless_same end path ks)
+keywords_endless_same end path (rule w r bs ∷ ks) = ap (λ l. keyword_endless end path (rule w r bs) ++ l) (keywords_endless_same end path ks)
 keywords_endless_same end path (string_keyword asserted ∷ ks) = keywords_endless_same end path ks
-keywords_endless_same end path (malformed name why ∷ ks) = keywords_endless_same end path ks
+keywords_endless_same end path (malformed below why ∷ ks) = keywords_endless_same end path ks
 
 body_endless_same : (end : ℕ → Bool) (path : Path) (body : Body) → body_endless end path (meaningful_body body) ≡ body_endless end path body
 body_endless_same end path always = refl
@@ -85,13 +77,9 @@ endless_same end (path ∷ paths) (t ∷ ts) = ap₂ (λ a b. a ++ b) (body_endl
 
 keywords_endless_alike : (f g : ℕ → Bool) → ((n : ℕ) → f n ≡ g n) → (path : Path) (ks : List Keyword) → keywords_endless f path ks ≡ keywords_endless g path ks
 keywords_endless_alike f g same path [] = refl
-keywords_endless_alike f g same path (types ts ∷ ks) = keywords_endless_alike f g same path ks
-keywords_endless_alike f g same path (required names ∷ ks) = keywords_endless_alike f g same path ks
-keywords_endless_alike f g same path (negation n schema ∷ ks) = keywords_endless_alike f g same path ks
-keywords_endless_alike f g same path (properties ps ∷ ks) = keywords_endless_alike f g same path ks
-keywords_endless_alike f g same path (reference n ∷ ks) = rw (same n, keywords_endless_alike f g same path ks) refl
+keywords_endless_alike f g same path (rule w r bs ∷ ks) = rw (list_all_alike f g same (schemas_in bs), keywords_endless_alike f g same path ks) refl
 keywords_endless_alike f g same path (string_keyword asserted ∷ ks) = keywords_endless_alike f g same path ks
-keywords_endless_alike f g same path (malformed name why ∷ ks) = keywords_endless_alike f g same path ks
+keywords_endless_alike f g same path (malformed below why ∷ ks) = keywords_endless_alike f g same path ks
 
 body_endless_alike : (f g : ℕ → Bool) → ((n : ℕ) → f n ≡ g n) → (path : Path) (body : Body) → body_endless f path body ≡ body_endless g path body
 body_endless_alike f g same path always = refl
@@ -117,13 +105,9 @@ nil_second (x ∷ xs) ys e = cc
 -- keywords with no problem are those that have a meaning
 meaningful_all : (path : Path) (ks : List Keyword) → keywords_problems path ks ≡ [] → meaningful ks ≡ ks
 meaningful_all path [] e = refl
-meaningful_all path (types ts ∷ ks) e = ap (λ l. types ts ∷ l) (meaningful_all path ks e)
-meaningful_all path (required names ∷ ks) e = ap (λ l. required names ∷ l) (meaningful_all path ks e)
-meaningful_all path (negation n schema ∷ ks) e = ap (λ l. negation n schema ∷ l) (meaningful_all path ks e)
-meaningful_all path (properties ps ∷ ks) e = ap (λ l. properties ps ∷ l) (meaningful_all path ks e)
-meaningful_all path (reference n ∷ ks) e = ap (λ l. reference n ∷ l) (meaningful_all path ks e)
+meaningful_all path (rule w r bs ∷ ks) e = ap (λ l. rule w r bs ∷ l) (meaningful_all path ks e)
 meaningful_all path (string_keyword asserted ∷ ks) e = ap (λ l. string_keyword asserted ∷ l) (meaningful_all path ks e)
-meaningful_all path (malformed name why ∷ ks) e = cc
+meaningful_all path (malformed below why ∷ ks) e = cc
 
 body_all : (path : Path) (body : Body) → body_problems path body ≡ [] → meaningful_body body ≡ body
 body_all path always e = refl

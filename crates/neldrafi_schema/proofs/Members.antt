@@ -1,5 +1,5 @@
 -- What was read of the members of a schema object so far.
-use Rattle.std.proofs.Common.{◌≡◌, ℕ, List, [], ◌∷◌, ◌++◌, length, map, refl, sym, ap, ◌∙◌, subst, append_assoc, append-nil, Some, None, Option, Vec, Global}
+use Rattle.std.proofs.Common.{◌≡◌, ℕ, List, [], ◌∷◌, ◌++◌, length, map, refl, sym, ap, ◌∙◌, subst, append_assoc, append-nil, Some, None, Option, Vec, Global, String, string_bytes}
 use Rattle.std.proofs.lemmas.List.{map-append}
 use Rattle.std.specs.List.{AllByRecursion}
 use Rattle.serde_json.specs.Data.{Data, object, Members, no_members, member}
@@ -12,18 +12,20 @@ use Rattle.neldrafi_schema.specs.declared.node.Keyword.TheVariants as compiled
 use Rattle.neldrafi_schema.specs.declared.places.Places.{Places}
 use Rattle.neldrafi_schema.specs.declared.problem.Problem.{Problem}
 use Rattle.neldrafi_schema.specs.machine.Compiled.{keyword_of}
-use Rattle.neldrafi_schema.specs.Paths.{Path}
+use Rattle.neldrafi_schema.specs.Paths.{Path, key}
 use Rattle.neldrafi_schema.specs.machine.Places.{Extends, Grown, IsTable, paths_of}
 use Rattle.neldrafi_schema.specs.machine.Problems.{Notes, reason_of}
 use Rattle.neldrafi_schema.specs.declared.reading.Said.{Said}
 use Rattle.neldrafi_schema.specs.declared.reading.Said.TheVariants as said
 use Rattle.neldrafi_schema.specs.declared.refusal.SchemaErrorKind.{SchemaErrorKind}
-use Rattle.neldrafi_schema.specs.Reading.{KnownSays, MembersSay, BodySays, Numbered, known_named, numbered_by}
+use Rattle.neldrafi_schema.specs.Drafts.{known_named}
+use Rattle.neldrafi_schema.specs.Reading.{KnownSays, MembersSay, BodySays, Numbered, numbered_by}
 use Rattle.neldrafi_schema.specs.machine.Ready.{IsKeywordReady, RestsOn}
 use Rattle.neldrafi_schema.specs.Refusals.{keyword_problems, keywords_problems}
 use Rattle.neldrafi_schema.specs.machine.Said.{Always, IsSaidReady, Reads, meaningful, meaningful_one, said_keywords}
 use Rattle.neldrafi_schema.specs.Schemas.{Keyword, keywords, Reason, malformed}
-use Rattle.neldrafi_schema.proofs.Keeping.{extends_both, extends_itself, noted_both, nothing_noted}
+use Rattle.neldrafi_schema.proofs.Keeping.{all_more, extends_both, extends_itself, noted_both, nothing_noted}
+use Rattle.neldrafi_schema.proofs.Tables.{grown_both, grown_itself}
 
 pub problems-append : (path : Path) (ks others : List Keyword) → keywords_problems path (ks ++ others) ≡ keywords_problems path ks ++ keywords_problems path others
 problems-append path [] others = refl
@@ -32,40 +34,18 @@ problems-append path (k ∷ ks) others = ap (λ l. keyword_problems path k ++ l)
 
 -- what is compiled has a meaning
 pub no_problem : {E : Type 0} (outcome : E → List ℕ → Outcome) (path : Path) (k : CompiledKeyword E) → keywords_problems path (keyword_of outcome k ∷ []) ≡ []
-no_problem outcome path (compiled.Types ts) = refl
-no_problem outcome path (compiled.Required names) = refl
-no_problem outcome path (compiled.Not n schema) = refl
-no_problem outcome path (compiled.Properties ps) = refl
-no_problem outcome path (compiled.Ref n) = refl
+no_problem outcome path (compiled.Rule r) = refl
 no_problem outcome path (compiled.Text v) = refl
 
 -- and stays
 pub compiled_means : {E : Type 0} (outcome : E → List ℕ → Outcome) (k : CompiledKeyword E) → meaningful (keyword_of outcome k ∷ []) ≡ keyword_of outcome k ∷ []
-compiled_means outcome (compiled.Types ts) = refl
-compiled_means outcome (compiled.Required names) = refl
-compiled_means outcome (compiled.Not n schema) = refl
-compiled_means outcome (compiled.Properties ps) = refl
-compiled_means outcome (compiled.Ref n) = refl
+compiled_means outcome (compiled.Rule r) = refl
 compiled_means outcome (compiled.Text v) = refl
 
 pub meaningful-append : (ks others : List Keyword) → meaningful (ks ++ others) ≡ meaningful ks ++ meaningful others
 meaningful-append [] others = refl
 meaningful-append (k ∷ ks) others = ap (λ l. meaningful_one k ++ l) (meaningful-append ks others)
     ∙ sym (append_assoc (meaningful_one k) (meaningful ks) (meaningful others))
-
-pub all_more : {A : Type 0} (P : A → Type 0) (xs : List A) (x : A) → AllByRecursion P xs → P x → AllByRecursion P (xs ++ x ∷ [])
-all_more P [] x all p = (p, tt)
-all_more P (y ∷ ys) x all p = (all.0, all_more P ys x all.1 p)
-
-pub grown_itself : (t : Places) → IsTable t → Grown t t
-grown_itself t table = record { document = refl; extends = extends_itself (paths_of t.places.items); table = table }
-
-pub grown_both : (a b c : Places) → Grown a b → Grown b c → Grown a c
-grown_both a b c p q = record {
-  document = q.document ∙ p.document;
-  extends = extends_both (paths_of a.places.items) (paths_of b.places.items) (paths_of c.places.items) p.extends q.extends;
-  table = q.table;
-}
 
 module _ {E : Type 0} (outcome : E → List ℕ → Outcome) (s : Settings) (document : Data) (path : Path) (ms : Members) (start : Places) (old : Option Problem) where
   -- what was read, with rest still to come
@@ -75,7 +55,7 @@ module _ {E : Type 0} (outcome : E → List ℕ → Outcome) (s : Settings) (doc
         → MembersSay (numbered_by all) s document path ms rest later → MembersSay (numbered_by all) s document path ms ms (said ++ later)
     pub notes : Notes (keywords_problems path said) old first
     pub same : map (keyword_of outcome) ks ≡ meaningful said
-    pub ready : (all : List Path) → Extends (paths_of places.places.items) all → AllByRecursion (IsKeywordReady (RestsOn outcome s.lists) (length all)) ks
+    pub ready : (all : List Path) → Extends (paths_of places.places.items) all → AllByRecursion (IsKeywordReady outcome (RestsOn outcome s.lists) (length all)) ks
     pub grown : Grown start places
 
   pub nothing_read : IsTable start → ReadSoFar ms start old []
@@ -91,11 +71,11 @@ module _ {E : Type 0} (outcome : E → List ℕ → Outcome) (s : Settings) (doc
   -- one member more
   pub read_more : (name : List ℕ) (d : Data) (rest : Members) (places next : Places) (first after : Option Problem) (ks more : List (CompiledKeyword E)) (says : List Keyword)
       → ReadSoFar (member name d rest) places first ks → Grown places next
-      → Always (paths_of next.places.items) (λ numbered. KnownSays numbered s document path ms name (known_named name) d says)
+      → Always (paths_of next.places.items) (λ numbered. KnownSays numbered s document path ms name (known_named s.draft ms name) d says)
       → Notes (keywords_problems path says) first after
       → map (keyword_of outcome) more ≡ map (keyword_of outcome) ks ++ meaningful says
-      → ((all : List Path) → Extends (paths_of next.places.items) all → AllByRecursion (IsKeywordReady (RestsOn outcome s.lists) (length all)) ks
-      → AllByRecursion (IsKeywordReady (RestsOn outcome s.lists) (length all)) more)
+      → ((all : List Path) → Extends (paths_of next.places.items) all → AllByRecursion (IsKeywordReady outcome (RestsOn outcome s.lists) (length all)) ks
+      → AllByRecursion (IsKeywordReady outcome (RestsOn outcome s.lists) (length all)) more)
       → ReadSoFar rest next after more
   read_more name d rest places next first after ks more says read grown known notes same ready = record {
     said = read.said ++ says;
@@ -114,7 +94,7 @@ module _ {E : Type 0} (outcome : E → List ℕ → Outcome) (s : Settings) (doc
   -- a member that says nothing
   pub read_nothing : (name : List ℕ) (d : Data) (rest : Members) (places next : Places) (first : Option Problem) (ks : List (CompiledKeyword E))
       → ReadSoFar (member name d rest) places first ks → Grown places next
-      → Always (paths_of next.places.items) (λ numbered. KnownSays numbered s document path ms name (known_named name) d [])
+      → Always (paths_of next.places.items) (λ numbered. KnownSays numbered s document path ms name (known_named s.draft ms name) d [])
       → ReadSoFar rest next first ks
   read_nothing name d rest places next first ks read grown known = read_more name d rest places next first first ks ks [] read grown known
       (nothing_noted first) (sym (append-nil (map (keyword_of outcome) ks))) (λ all extends is. is)
@@ -122,32 +102,32 @@ module _ {E : Type 0} (outcome : E → List ℕ → Outcome) (s : Settings) (doc
   -- one that is compiled
   pub read_keyword : (name : List ℕ) (d : Data) (rest : Members) (places next : Places) (first : Option Problem) (ks more : List (CompiledKeyword E)) (k : CompiledKeyword E)
       → ReadSoFar (member name d rest) places first ks → Grown places next
-      → Always (paths_of next.places.items) (λ numbered. KnownSays numbered s document path ms name (known_named name) d (keyword_of outcome k ∷ []))
-      → ((all : List Path) → Extends (paths_of next.places.items) all → IsKeywordReady (RestsOn outcome s.lists) (length all) k) → more ≡ ks ++ k ∷ []
+      → Always (paths_of next.places.items) (λ numbered. KnownSays numbered s document path ms name (known_named s.draft ms name) d (keyword_of outcome k ∷ []))
+      → ((all : List Path) → Extends (paths_of next.places.items) all → IsKeywordReady outcome (RestsOn outcome s.lists) (length all) k) → more ≡ ks ++ k ∷ []
       → ReadSoFar rest next first more
   read_keyword name d rest places next first ks more k read grown known ready e =
       read_more name d rest places next first first ks more (keyword_of outcome k ∷ []) read grown known
       (subst (λ l. Notes l first first) (sym (no_problem outcome path k)) (nothing_noted first))
       (ap (map (keyword_of outcome)) e ∙ map-append (keyword_of outcome) ks (k ∷ []) ∙ ap (λ l. map (keyword_of outcome) ks ++ l) (sym (compiled_means outcome k)))
-      (λ all extends is. subst (AllByRecursion (IsKeywordReady (RestsOn outcome s.lists) (length all))) (sym e)
-      (all_more (IsKeywordReady (RestsOn outcome s.lists) (length all)) ks k is (ready all extends)))
+      (λ all extends is. subst (AllByRecursion (IsKeywordReady outcome (RestsOn outcome s.lists) (length all))) (sym e)
+      (all_more (IsKeywordReady outcome (RestsOn outcome s.lists) (length all)) ks k is (ready all extends)))
 
   -- one that has no meaning
-  pub read_malformed : (name : List ℕ) (d : Data) (rest : Members) (places next : Places) (first after : Option Problem) (ks : List (CompiledKeyword E)) (why : Reason)
+  pub read_malformed : (name : List ℕ) (d : Data) (rest : Members) (places next : Places) (first after : Option Problem) (ks : List (CompiledKeyword E)) (below : Path) (why : Reason)
       → ReadSoFar (member name d rest) places first ks → Grown places next
-      → Always (paths_of next.places.items) (λ numbered. KnownSays numbered s document path ms name (known_named name) d (malformed name why ∷ []))
-      → Notes ((path ++ name ∷ [], why) ∷ []) first after → ReadSoFar rest next after ks
-  read_malformed name d rest places next first after ks why read grown known notes =
-      read_more name d rest places next first after ks ks (malformed name why ∷ []) read grown known
+      → Always (paths_of next.places.items) (λ numbered. KnownSays numbered s document path ms name (known_named s.draft ms name) d (malformed below why ∷ []))
+      → Notes ((path ++ below, why) ∷ []) first after → ReadSoFar rest next after ks
+  read_malformed name d rest places next first after ks below why read grown known notes =
+      read_more name d rest places next first after ks ks (malformed below why ∷ []) read grown known
       notes (sym (append-nil (map (keyword_of outcome) ks))) (λ all extends is. is)
 
   -- one member more, by what it came to
   module _ (name : List ℕ) (d : Data) (rest : Members) (places next : Places) (first after : Option Problem) (ks more : List (CompiledKeyword E)) (answer : Said E)
       (read : ReadSoFar (member name d rest) places first ks) (grown : Grown places next)
-      (says : Always (paths_of next.places.items) (λ numbered. KnownSays numbered s document path ms name (known_named name) d (said_keywords outcome name answer)))
+      (says : Always (paths_of next.places.items) (λ numbered. KnownSays numbered s document path ms name (known_named s.draft ms name) d (said_keywords outcome name answer)))
       (ready : IsSaidReady outcome s.lists (paths_of next.places.items) answer) where
     abbrev Says : Said E → Type 0
-    Says o = Always (paths_of next.places.items) (λ numbered. KnownSays numbered s document path ms name (known_named name) d (said_keywords outcome name o))
+    Says o = Always (paths_of next.places.items) (λ numbered. KnownSays numbered s document path ms name (known_named s.draft ms name) d (said_keywords outcome name o))
 
     pub said_nothing : answer ≡ said.Nothing → after ≡ first → more ≡ ks → ReadSoFar rest next after more
     said_nothing is same are = rw (same, are) (read_nothing name d rest places next first ks read grown (subst Says is says))
@@ -158,11 +138,18 @@ module _ {E : Type 0} (outcome : E → List ℕ → Outcome) (s : Settings) (doc
         (subst (IsSaidReady outcome s.lists (paths_of next.places.items)) is ready) e)
 
     pub said_malformed : (kind : SchemaErrorKind) (noted : Option Problem) (at : Path) → answer ≡ said.Malformed kind → after ≡ noted → more ≡ ks
-        → at ≡ path ++ name ∷ []
+        → at ≡ path ++ key name ∷ []
         → Notes ((at, reason_of kind) ∷ []) first noted → ReadSoFar rest next after more
     said_malformed kind noted at is same are there notes =
-        rw (same, are) (read_malformed name d rest places next first noted ks (reason_of kind) read grown (subst Says is says)
+        rw (same, are) (read_malformed name d rest places next first noted ks (key name ∷ []) (reason_of kind) read grown (subst Says is says)
         (subst (λ p. Notes ((p, reason_of kind) ∷ []) first noted) there notes))
+
+    pub said_malformed_at : (inner : String Global) (kind : SchemaErrorKind) (noted : Option Problem) (at : Path) → answer ≡ said.MalformedAt inner kind → after ≡ noted
+        → more ≡ ks → at ≡ (path ++ key name ∷ []) ++ key (string_bytes inner) ∷ []
+        → Notes ((at, reason_of kind) ∷ []) first noted → ReadSoFar rest next after more
+    said_malformed_at inner kind noted at is same are there notes =
+        rw (same, are) (read_malformed name d rest places next first noted ks (key name ∷ key (string_bytes inner) ∷ []) (reason_of kind) read grown (subst Says is says)
+        (subst (λ p. Notes ((p, reason_of kind) ∷ []) first noted) (there ∙ append_assoc path (key name ∷ []) (key (string_bytes inner) ∷ [])) notes))
 
   -- the whole object was read
   pub read_all : (places : Places) (first : Option Problem) (ks : Vec (CompiledKeyword E) Global) → ReadSoFar no_members places first ks.items

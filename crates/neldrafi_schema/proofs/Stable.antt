@@ -6,7 +6,8 @@ use Rattle.std.specs.Prelude.{slice_get}
 use Rattle.std.specs.List.{list_all}
 use Rattle.neldrafi_schema.specs.Refusals.{body_ends, ends, in_place, keywords_end, schema_ends}
 use Rattle.neldrafi_schema.specs.Schemas.{Body, Keyword, Schema, always, keywords, neither, never}
-use Rattle.neldrafi_schema.proofs.Endings.{all_stay, and_left, and_right}
+use Rattle.neldrafi_schema.proofs.Endings.{all_stay}
+use Rattle.neldrafi_schema.proofs.Fitting.{and_left, and_right}
 
 -- ---- flags that are counted
 
@@ -75,7 +76,7 @@ module _ (f g : ℕ → Bool) (keeps : (n : ℕ) → f n ≡ true → g n ≡ tr
 -- ---- one step more
 
 module _ (f g : ℕ → Bool) (keeps : (n : ℕ) → f n ≡ true → g n ≡ true) where
-  all_keep : (ns : List ℕ) → list_all f ns ≡ true → list_all g ns ≡ true
+  pub all_keep : (ns : List ℕ) → list_all f ns ≡ true → list_all g ns ≡ true
   all_keep [] e = refl
   all_keep (n ∷ ns) e = rw (keeps n (and_left (f n) _ e), all_keep ns (and_right (f n) _ e)) refl
 

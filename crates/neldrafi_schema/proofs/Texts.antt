@@ -1,10 +1,6 @@
 -- String keywords, alone.
-use Rattle.std.proofs.Common.{◌≡◌, ◌↔◌, ℕ, List, [], ◌∷◌, Bool, IsTrue, IfOk, Result, map, refl, subst}
+use Rattle.std.proofs.Common.{◌≡◌, ◌↔◌, ℕ, List, [], ◌∷◌, Bool, IsTrue, IfOk, Option, Result, map, refl, subst}
 use Rattle.std.proofs.lemmas.Result.{IfOk-weaker}
-use Rattle.serde_json.specs.Data.{Data}
-use Rattle.serde_json.specs.Find.{as_str}
-use Rattle.serde_json.specs.View.{view}
-use Rattle.serde_json.specs.declared.value.Value.{Value}
 use Rattle.strkw_report.specs.Kinds.{Report}
 use Rattle.strkw_report.specs.declared.error.Site.{Site}
 use Rattle.strkw_pattern.specs.declared.engine.Outcome.{Outcome}
@@ -16,18 +12,18 @@ use Rattle.neldrafi_schema.specs.Errors.{of_text}
 use Rattle.neldrafi_schema.specs.Meaning.{TextReports}
 use Rattle.neldrafi_schema.specs.machine.Closures.{IsTextVerdict}
 
-no_reports : (rs : List Report) → [] ≡ map of_text rs → rs ≡ []
+pub no_reports : (rs : List Report) → [] ≡ map of_text rs → rs ≡ []
 no_reports [] e = refl
 no_reports (r ∷ rs) e = cc
 
 -- a string keyword reports nothing of a schema just where it reports nothing of the text
-nothing_alike : (lists : Lists) (asserted : List Assertion) (d : Data) (b : Bool) → ((site : Site) → IsTrue b ↔ NodeReports asserted lists site (as_str d) [])
-    → (site : Site) → IsTrue b ↔ TextReports lists asserted d site []
-nothing_alike lists asserted d b h site = (
+nothing_alike : (lists : Lists) (asserted : List Assertion) (text : Option (List ℕ)) (b : Bool) → ((site : Site) → IsTrue b ↔ NodeReports asserted lists site text [])
+    → (site : Site) → IsTrue b ↔ TextReports lists asserted text site []
+nothing_alike lists asserted text b h site = (
   λ t. ([], (h site).0 t, refl),
-  λ (rs, reported, e). (h site).1 (subst (NodeReports asserted lists site (as_str d)) (no_reports rs e) reported),
+  λ (rs, reported, e). (h site).1 (subst (NodeReports asserted lists site text) (no_reports rs e) reported),
 )
 
-pub is_verdict : {E X : Type 0} (outcome : E → List ℕ → Outcome) (lists : Lists) (v : Validator E) (x : Value) (r : Result Bool X)
-    → IfOk r (λ b. (site : Site) → IsTrue b ↔ NodeReports (assertions_of outcome v) lists site (as_str (view x)) []) → IsTextVerdict outcome lists v x r
-is_verdict outcome lists v x r = IfOk-weaker r _ _ (nothing_alike lists (assertions_of outcome v) (view x))
+pub is_verdict : {E X : Type 0} (outcome : E → List ℕ → Outcome) (lists : Lists) (v : Validator E) (text : Option (List ℕ)) (r : Result Bool X)
+    → IfOk r (λ b. (site : Site) → IsTrue b ↔ NodeReports (assertions_of outcome v) lists site text []) → IsTextVerdict outcome lists v text r
+is_verdict outcome lists v text r = IfOk-weaker r _ _ (nothing_alike lists (assertions_of outcome v) text)

@@ -1,35 +1,37 @@
--- Where every reference comes to an end, every way does: the schema of `not` stands further down in the document.
-use Rattle.std.proofs.Common.{◌≡◌, ◌+◌, ◌<◌, ◌≤◌, ◌++◌, ℕ, zero, suc, List, [], ◌∷◌, length, get_or, Bool, true, false, Option, Some, None, inl, inr, refl, arith, length-append, suc-add}
+-- Where every reference comes to an end, every way does: every other schema that is of the whole instance stands further
+-- down in the document.
+use Rattle.std.proofs.Common.{◌≡◌, ◌⊎◌, ◌+◌, ◌<◌, ◌≤◌, ◌++◌, ℕ, zero, suc, List, [], ◌∷◌, length, get_or, map, Bool, true, false, Option, Some, None, inl, inr, refl, arith, length-append, suc-add}
 use Rattle.std.proofs.lemmas.Option.{slice_get-get_or, slice_get_within}
-use Rattle.std.specs.Prelude.{slice_get, if◌then◌else◌}
-use Rattle.std.specs.List.{AllByRecursion}
+use Rattle.std.specs.Prelude.{slice_get, if◌then◌else◌, not, ◌||◌}
+use Rattle.std.specs.List.{AllByRecursion, list_all}
 use Rattle.serde_json.specs.Data.{Data, null, boolean, number, string, array, object, Members, no_members, member}
-use Rattle.serde_json.specs.Find.{as_object, as_str}
+use Rattle.serde_json.specs.Find.{as_object}
 use Rattle.strkw_keywords.specs.Errors.{Assertion}
 use Rattle.strkw_keywords.specs.Object.{Settings}
 use Rattle.strkw_report.specs.Refusals.{Refusal}
-use Rattle.neldrafi_schema.specs.declared.reading.Known.{Known}
-use Rattle.neldrafi_schema.specs.declared.reading.Known.TheVariants as known
-use Rattle.neldrafi_schema.specs.Paths.{Path}
-use Rattle.neldrafi_schema.specs.Reading.{BodySays, KnownSays, LeadsTo, MembersSay, PropertiesSay, ReferenceSays, SaysEntries}
-use Rattle.neldrafi_schema.specs.Reading.{dialect_keywords, is_dialect, known_named, names_in, numbered_by, of_kind, reference_name, types_in}
-use Rattle.neldrafi_schema.specs.References.{schema_referred}
-use Rattle.neldrafi_schema.specs.Refusals.{body_endless, body_ends, ends, keywords_end, keywords_endless, schema_ends, schemas_endless}
-use Rattle.neldrafi_schema.specs.Schemas.{Reason, Body, Keyword, Schema, always, keywords, malformed, negation, neither, never, properties, reference, required, string_keyword, types}
+use Rattle.neldrafi_schema.specs.declared.known.Known.{Known}
+use Rattle.neldrafi_schema.specs.declared.known.Known.TheVariants as known
+use Rattle.neldrafi_schema.specs.Drafts.{is_draft_4, known_named, reference_name}
+use Rattle.neldrafi_schema.specs.Paths.{Path, key}
+use Rattle.neldrafi_schema.specs.Reading.{AreNumbered, BodySays, KnownSays, MembersSay, PatternPropertiesSay, Patterns, PatternsSay, SaysEntries, SenseSays, malformed_at, numbered_by, patterns}
+use Rattle.neldrafi_schema.specs.Refusals.{body_endless, body_ends, ends, in_place, is_in_place, is_reference, keyword_endless, keywords_end, keywords_endless, schema_ends, schemas_endless, schemas_in}
+use Rattle.neldrafi_schema.specs.Schemas.{Branch, Reason, Rule, Body, Keyword, Schema, always, keywords, malformed, neither, never, rule, string_keyword}
+use Rattle.neldrafi_schema.specs.Values.{Lead, Sense, nothing, says, refused, sense}
 use Rattle.neldrafi_schema.proofs.Keeping.{all_both}
 use Rattle.neldrafi_schema.proofs.Lists.{past_end}
 use Rattle.neldrafi_schema.proofs.Meaningful.{flag, nil_first, nil_second}
-use Rattle.neldrafi_schema.proofs.Stable.{enough_to_end, steps_keep}
+use Rattle.neldrafi_schema.proofs.Deeper.{IsFarther, IsRuleDown, IsSenseDown, members_down, sense_down}
+use Rattle.neldrafi_schema.proofs.Stable.{all_keep, enough_to_end, steps_keep}
 
 module _ (paths : List Path) where
+  -- the schema of this number stands further down
+  abbrev pub IsDeeper : Path → ℕ → Type 0
+  IsDeeper path n = (other : Path) × (slice_get paths n ≡ Some other) × (length path < length other)
+
   abbrev pub IsDown : Path → Keyword → Type 0
-  IsDown path (types ts) = Unit {0}
-  IsDown path (required names) = Unit {0}
-  IsDown path (negation n schema) = (name : List ℕ) × (slice_get paths n ≡ Some (path ++ name ∷ []))
-  IsDown path (properties ps) = Unit {0}
-  IsDown path (reference n) = Unit {0}
+  IsDown path (rule word r bs) = (is_reference r ≡ true) ⊎ AllByRecursion (λ b. IsDeeper path b.schema) bs
   IsDown path (string_keyword asserted) = Unit {0}
-  IsDown path (malformed name why) = Unit {0}
+  IsDown path (malformed below why) = Unit {0}
 
   abbrev pub IsBodyDown : Path → Body → Type 0
   IsBodyDown path always = Unit {0}
@@ -37,79 +39,122 @@ module _ (paths : List Path) where
   IsBodyDown path neither = Unit {0}
   IsBodyDown path (keywords ks) = AllByRecursion (IsDown path) ks
 
-  module _ (path : Path) (name : List ℕ) where
+  module _ (path : Path) where
     abbrev AreDown : List Keyword → Type 0
     AreDown ks = AllByRecursion (IsDown path) ks
 
-    unless_down : (b : Bool) (why : Reason) → AreDown (if b then [] else malformed name why ∷ [])
-    unless_down true why = tt
-    unless_down false why = (tt, tt)
+    numbered_down : (leads : List Lead) (bs : List Branch) → AllByRecursion (IsFarther path) leads → AreNumbered (numbered_by paths) leads bs
+        → AllByRecursion (λ b. IsDeeper path b.schema) bs
+    numbered_down [] bs down e = rw e tt
+    numbered_down (l ∷ leads) bs down (n, rest, at, are, e) = rw e ((l.path, at, down.0), numbered_down leads rest down.1 are)
 
-    dialect_down : (o : Option (List ℕ)) → AreDown (dialect_keywords name o)
-    dialect_down None = (tt, tt)
-    dialect_down (Some text) = unless_down (is_dialect text) _
+    branches_down : (r : Rule) (leads : List Lead) (bs : List Branch) → (is_reference r ≡ true) ⊎ AllByRecursion (IsFarther path) leads
+        → AreNumbered (numbered_by paths) leads bs → (is_reference r ≡ true) ⊎ AllByRecursion (λ b. IsDeeper path b.schema) bs
+    branches_down r leads bs (inl e) are = inl e
+    branches_down r leads bs (inr down) are = inr (numbered_down leads bs down are)
 
-    kind_down : {A : Type 0} (says : A → Keyword) → ((a : A) → IsDown path (says a)) → (o : Option A) → AreDown (of_kind name says o)
-    kind_down says plain None = (tt, tt)
-    kind_down says plain (Some a) = (plain a, tt)
+    says_down : (name : List ℕ) (s : Sense) (ks : List Keyword) → IsSenseDown path s → SenseSays (numbered_by paths) name s ks → AreDown ks
+    says_down name nothing ks down e = rw e tt
+    says_down name (says r leads) ks down (bs, are, e) = rw e (branches_down r leads bs down.down are, tt)
+    says_down name (refused why) ks down e = rw e (tt, tt)
 
-    target_down : (o : Option Path) (ks : List Keyword) → LeadsTo (numbered_by paths) name o ks → AreDown ks
-    target_down None ks e = rw e (tt, tt)
-    target_down (Some target) ks (n, at, e) = rw e (tt, tt)
+    entries_down : (at : Path) (asserted : List Assertion) (o : Option Refusal) (ks : List Keyword) → SaysEntries at asserted o ks → AreDown ks
+    entries_down at asserted (Some r) ks e = rw e (tt, tt)
+    entries_down at asserted None ks (inl e) = rw e (tt, tt)
+    entries_down at asserted None ks (inr (none, e)) = rw e tt
 
-    reference_down : (document : Data) (o : Option (List ℕ)) (ks : List Keyword) → ReferenceSays (numbered_by paths) document name o ks → AreDown ks
-    reference_down document None ks e = rw e (tt, tt)
-    reference_down document (Some text) ks says = target_down (schema_referred document text) ks says
+    patterns_down : (at : Path) (name : List ℕ) (ms : Members) (found : Patterns) (ks : List Keyword) → length path < length at
+        → PatternsSay (numbered_by paths) at name ms found ks → AreDown ks
+    patterns_down at name ms (patterns asserted) ks h (bs, are, e) = rw e (inr (numbered_down _ bs (members_down path at h ms) are), tt)
+    patterns_down at name ms (malformed_at below why) ks h e = rw e (tt, tt)
 
-    properties_down : (at : Path) (o : Option Members) (ks : List Keyword) → PropertiesSay (numbered_by paths) at name o ks → AreDown ks
-    properties_down at None ks e = rw e (tt, tt)
-    properties_down at (Some ms) ks (ps, are, e) = rw e (tt, tt)
+    pattern_properties_down : (s : Settings) (name : List ℕ) (o : Option Members) (ks : List Keyword) → PatternPropertiesSay (numbered_by paths) s path name o ks → AreDown ks
+    pattern_properties_down s name None ks e = rw e (tt, tt)
+    pattern_properties_down s name (Some ms) ks (found, are, e) =
+        patterns_down (path ++ key name ∷ []) name ms found ks (omega (arith, length-append path (key name ∷ []))) e
 
-    entries_down : (asserted : List Assertion) (o : Option Refusal) (ks : List Keyword) → SaysEntries name asserted o ks → AreDown ks
-    entries_down asserted (Some r) ks e = rw e (tt, tt)
-    entries_down asserted None ks (inl e) = rw e (tt, tt)
-    entries_down asserted None ks (inr (nothing, e)) = rw e tt
+    sense_says_down : (s : Settings) (document : Data) (ms : Members) (name : List ℕ) (k : Known) (d : Data) (ks : List Keyword)
+        → SenseSays (numbered_by paths) name (sense s.draft document ms path (path ++ key name ∷ []) k d) ks → AreDown ks
+    sense_says_down s document ms name k d ks e =
+        says_down name _ ks (sense_down path s.draft document ms (path ++ key name ∷ []) k d (omega (arith, length-append path (key name ∷ [])))) e
 
-    known_down : (s : Settings) (document : Data) (ms : Members) (k : Known) (d : Data) (ks : List Keyword)
+    known_down : (s : Settings) (document : Data) (ms : Members) (name : List ℕ) (k : Known) (d : Data) (ks : List Keyword)
         → KnownSays (numbered_by paths) s document path ms name k d ks → AreDown ks
-    known_down s document ms known.Dialect d ks e = rw e (dialect_down (as_str d))
-    known_down s document ms known.Reference d ks says = reference_down document (as_str d) ks says
-    known_down s document ms known.Not d ks (n, at, e) = rw e ((name, at), tt)
-    known_down s document ms known.Properties d ks says = properties_down (path ++ name ∷ []) (as_object d) ks says
-    known_down s document ms known.Required d ks e = rw e (kind_down required (λ names. tt) (names_in d))
-    known_down s document ms known.Types d ks e = rw e (kind_down types (λ ts. tt) (types_in d))
-    known_down s document ms (known.Text k) d ks says = entries_down _ _ ks says.said
-    known_down s document ms known.Unknown d ks e = rw e tt
+    known_down s document ms name known.Dialect d ks e = sense_says_down s document ms name known.Dialect d ks e
+    known_down s document ms name known.Reference d ks e = sense_says_down s document ms name known.Reference d ks e
+    known_down s document ms name known.Types d ks e = sense_says_down s document ms name known.Types d ks e
+    known_down s document ms name known.Enumeration d ks e = sense_says_down s document ms name known.Enumeration d ks e
+    known_down s document ms name known.Constant d ks e = sense_says_down s document ms name known.Constant d ks e
+    known_down s document ms name known.MultipleOf d ks e = sense_says_down s document ms name known.MultipleOf d ks e
+    known_down s document ms name (known.Limited l) d ks e = sense_says_down s document ms name (known.Limited l) d ks e
+    known_down s document ms name (known.Sized size) d ks e = sense_says_down s document ms name (known.Sized size) d ks e
+    known_down s document ms name known.UniqueItems d ks e = sense_says_down s document ms name known.UniqueItems d ks e
+    known_down s document ms name known.Required d ks e = sense_says_down s document ms name known.Required d ks e
+    known_down s document ms name known.Dependencies d ks e = sense_says_down s document ms name known.Dependencies d ks e
+    known_down s document ms name known.Properties d ks e = sense_says_down s document ms name known.Properties d ks e
+    known_down s document ms name known.PatternProperties d ks e = pattern_properties_down s name (as_object d) ks e
+    known_down s document ms name known.AdditionalProperties d ks e = sense_says_down s document ms name known.AdditionalProperties d ks e
+    known_down s document ms name known.PropertyNames d ks e = sense_says_down s document ms name known.PropertyNames d ks e
+    known_down s document ms name known.Items d ks e = sense_says_down s document ms name known.Items d ks e
+    known_down s document ms name known.AdditionalItems d ks e = sense_says_down s document ms name known.AdditionalItems d ks e
+    known_down s document ms name known.Contains d ks e = sense_says_down s document ms name known.Contains d ks e
+    known_down s document ms name known.AllOf d ks e = sense_says_down s document ms name known.AllOf d ks e
+    known_down s document ms name known.AnyOf d ks e = sense_says_down s document ms name known.AnyOf d ks e
+    known_down s document ms name known.OneOf d ks e = sense_says_down s document ms name known.OneOf d ks e
+    known_down s document ms name known.Not d ks e = sense_says_down s document ms name known.Not d ks e
+    known_down s document ms name known.If d ks e = sense_says_down s document ms name known.If d ks e
+    known_down s document ms name known.Then d ks e = sense_says_down s document ms name known.Then d ks e
+    known_down s document ms name known.Else d ks e = sense_says_down s document ms name known.Else d ks e
+    known_down s document ms name known.Definitions d ks e = sense_says_down s document ms name known.Definitions d ks e
+    known_down s document ms name (known.Text text) d ks e = entries_down _ _ _ ks e.said
+    known_down s document ms name known.Unknown d ks e = sense_says_down s document ms name known.Unknown d ks e
 
   module _ (s : Settings) (document : Data) (path : Path) where
-    members_down : (all ms : Members) (ks : List Keyword) → MembersSay (numbered_by paths) s document path all ms ks → AllByRecursion (IsDown path) ks
-    members_down all no_members ks e = rw e tt
-    members_down all (member name d ms) ks (first, later, says, more, e) =
-        rw e (all_both (IsDown path) first later (known_down path name s document all (known_named name) d first says) (members_down all ms later more))
+    all_members_down : (all ms : Members) (ks : List Keyword) → MembersSay (numbered_by paths) s document path all ms ks → AllByRecursion (IsDown path) ks
+    all_members_down all no_members ks e = rw e tt
+    all_members_down all (member name d ms) ks (first, later, stated, more, e) =
+        rw e (all_both (IsDown path) first later (known_down path s document all name (known_named s.draft all name) d first stated) (all_members_down all ms later more))
+
+    boolean_down : (draft_4 b : Bool) → IsBodyDown path (if draft_4 then neither else (if b then always else never))
+    boolean_down true b = tt
+    boolean_down false true = tt
+    boolean_down false false = tt
 
     pub body_down : (d : Data) (body : Body) → BodySays (numbered_by paths) s document path d body → IsBodyDown path body
     body_down null body e = rw e tt
-    body_down (boolean true) body e = rw e tt
-    body_down (boolean false) body e = rw e tt
+    body_down (boolean b) body e = rw e (boolean_down (is_draft_4 s.draft) b)
     body_down (number x) body e = rw e tt
     body_down (string text) body e = rw e tt
     body_down (array ds) body e = rw e tt
-    body_down (object ms) body (ks, says, e) = rw e (members_down ms ms ks says)
+    body_down (object ms) body (ks, stated, e) = rw e (all_members_down ms ms ks stated)
 
   -- a schema ends in more steps where its references do, and those further down
   module _ (path : Path) (end next : ℕ → Bool) (keeps : (n : ℕ) → end n ≡ true → next n ≡ true)
-      (deeper : (n : ℕ) (name : List ℕ) → slice_get paths n ≡ Some (path ++ name ∷ []) → next n ≡ true) where
+      (deeper : (n : ℕ) (other : Path) → slice_get paths n ≡ Some other → length path < length other → next n ≡ true) where
+    deeper_come : (bs : List Branch) → AllByRecursion (λ b. IsDeeper path b.schema) bs → list_all next (schemas_in bs) ≡ true
+    deeper_come [] down = refl
+    deeper_come (b ∷ bs) down = rw (deeper b.schema down.0.0 down.0.1 down.0.2, deeper_come bs down.1) refl
+
+    placed : (b : Bool) (ns : List ℕ) → list_all next ns ≡ true → list_all next (if b then ns else []) ≡ true
+    placed true ns e = e
+    placed false ns e = refl
+
+    rule_comes : (word : List ℕ) (r : Rule) (bs : List Branch) → IsDown path (rule word r bs) → keyword_endless end path (rule word r bs) ≡ []
+        → list_all next (in_place (rule word r bs)) ≡ true
+    rule_comes word r bs (inl is) e =
+        let all : list_all end (schemas_in bs) ≡ true = flag (list_all end (schemas_in bs)) (path ++ key reference_name ∷ []) (rw is at e) in
+        placed (is_in_place r) (schemas_in bs) (all_keep end next keeps (schemas_in bs) all)
+    rule_comes word r bs (inr down) e = placed (is_in_place r) (schemas_in bs) (deeper_come bs down)
+
     keywords_come : (ks : List Keyword) → AllByRecursion (IsDown path) ks → keywords_endless end path ks ≡ [] → keywords_end next ks ≡ true
     keywords_come [] down e = refl
-    keywords_come (types ts ∷ ks) down e = keywords_come ks down.1 e
-    keywords_come (required names ∷ ks) down e = keywords_come ks down.1 e
-    keywords_come (negation n schema ∷ ks) down e = rw (deeper n down.0.0 down.0.1, keywords_come ks down.1 e) refl
-    keywords_come (properties ps ∷ ks) down e = keywords_come ks down.1 e
-    keywords_come (reference n ∷ ks) down e =
-        let at = path ++ reference_name ∷ [] in
-        rw (keeps n (flag (end n) at (nil_first _ (keywords_endless end path ks) e)), keywords_come ks down.1 (nil_second _ (keywords_endless end path ks) e)) refl
+    keywords_come (rule word r bs ∷ ks) down e =
+        rw (
+          rule_comes word r bs down.0 (nil_first (keyword_endless end path (rule word r bs)) (keywords_endless end path ks) e),
+          keywords_come ks down.1 (nil_second (keyword_endless end path (rule word r bs)) (keywords_endless end path ks) e),
+        ) refl
     keywords_come (string_keyword asserted ∷ ks) down e = keywords_come ks down.1 e
-    keywords_come (malformed name why ∷ ks) down e = keywords_come ks down.1 e
+    keywords_come (malformed below why ∷ ks) down e = keywords_come ks down.1 e
 
     body_comes : (body : Body) → IsBodyDown path body → body_endless end path body ≡ [] → body_ends next body ≡ true
     body_comes always down e = refl
@@ -144,7 +189,7 @@ module _ (paths : List Path) (ts : List Schema) (same : length ts ≡ length pat
     (down : (n : ℕ) (path : Path) (t : Schema) → slice_get paths n ≡ Some path → slice_get ts n ≡ Some t → IsBodyDown paths path t.body)
     (none : schemas_endless (ends ts (length ts)) paths ts ≡ []) where
   schema_comes : (steps n : ℕ) (path : Path) → slice_get paths n ≡ Some path
-      → ((m : ℕ) (name : List ℕ) → slice_get paths m ≡ Some (path ++ name ∷ []) → ends ts (steps + length ts) m ≡ true)
+      → ((m : ℕ) (other : Path) → slice_get paths m ≡ Some other → length path < length other → ends ts (steps + length ts) m ≡ true)
       → (o : Option Schema) → slice_get ts n ≡ o → schema_ends (ends ts (steps + length ts)) o ≡ true
   schema_comes steps n path at deeper None e = absurd (omega (arith, past_end ts n e, slice_get_within paths n path at))
   schema_comes steps n path at deeper (Some t) e =
@@ -156,7 +201,7 @@ module _ (paths : List Path) (ts : List Schema) (same : length ts ≡ length pat
   way_ends zero n path at h = absurd (omega (arith, fewer_keys paths n path at))
   way_ends (suc more) n path at h =
       rw suc-add (schema_comes more n path at
-      (λ m name is. way_ends more m (path ++ name ∷ []) is (omega (arith, length-append path (name ∷ [])))) (slice_get ts n) refl)
+      (λ m other is longer. way_ends more m other is (omega arith)) (slice_get ts n) refl)
 
   pub all_ways_end : (n : ℕ) → n < length ts → ends ts (length ts) n ≡ true
   all_ways_end n h =

@@ -1,8 +1,14 @@
+pub mod Paths
+pub mod Numbers
+pub mod Equality
 pub mod Types
 pub mod Schemas
 pub mod Errors
-pub mod Paths
+pub mod Explanations
+pub mod Rules
 pub mod References
+pub mod Drafts
+pub mod Values
 pub mod Settings
 pub mod Reading
 pub mod Meaning

@@ -1,24 +1,64 @@
--- Where a reference leads: `#` and a JSON pointer (Core, section 8.2.3.1; RFC 6901, sections 4, 6).
+-- Where a reference leads: `#` and a JSON pointer, percent-encoded (Core 2020-12, section 8.2.3.1;
+-- RFC 6901, sections 4 and 6).
 use Rattle.std.specs.Prelude.{ℕ, List, [], ◌∷◌, Bool, true, false, Option, Some, None}
-use Rattle.std.specs.Prelude.{option_and_then, if◌then◌else◌, ◌==◌, map}
+use Rattle.std.specs.Prelude.{option_and_then, option_map, if◌then◌else◌, ◌==◌, not, ◌&&◌, ◌||◌}
+use Rattle.std.specs.Prelude.{◌^◌, nat_lt, length, slice_index}
 use Rattle.std.specs.List.{slice_split}
-use Rattle.std.specs.Str.{byte}
+use Rattle.std.specs.Str.{all_ascii_digits, byte, is_utf8}
+use Rattle.std.specs.Str.Parse.{digits_value}
 use Rattle.serde_json.specs.Data.{Data, null, boolean, number, string, array, object}
 use Rattle.serde_json.specs.Find.{unescape}
-use Rattle.neldrafi_schema.specs.Paths.{Path, value_at}
+use Rattle.percent_encoding.specs.Percent.{percent_decode}
+use Rattle.neldrafi_schema.specs.Paths.{Path, Segment, key, place, child, value_at}
+
+-- digits, with no 0 before another
+abbrev pub is_place : List ℕ → Bool
+is_place token = nat_lt 0 (length token) && all_ascii_digits token
+    && (length token == 1 || not (slice_index token 0 == byte "0"))
+
+-- the place that a token names, which is one of 64 bits
+unfoldable pub place_named : List ℕ → Option ℕ
+place_named token = if is_place token && nat_lt (digits_value 10 token) (2 ^ 64)
+    then Some (digits_value 10 token) else None
+
+-- what a token of a pointer says at an array: a place, where it is one
+abbrev pub item_segment : List ℕ → Option ℕ → Segment
+item_segment token (Some n) = place n
+item_segment token None = key (unescape token)
+
+-- and what it says at a value
+abbrev pub segment_at : Data → List ℕ → Segment
+segment_at (array ds) token = item_segment token (place_named token)
+segment_at other token = key (unescape token)
+
+-- the path along tokens from a value, where something stands at its end
+abbrev pub path_along : List (List ℕ) → Data → Option Path
+path_along [] d = Some []
+path_along (token ∷ tokens) d = option_and_then
+    (λ below. option_map (λ path. segment_at d token ∷ path) (path_along tokens below))
+    (child (segment_at d token) d)
 
 -- nothing stands before the first `/`
-abbrev pub path_of_tokens : List (List ℕ) → Option Path
-path_of_tokens [] = None
-path_of_tokens ([] ∷ keys) = Some (map unescape keys)
-path_of_tokens ((c ∷ cs) ∷ keys) = None
+abbrev pub path_of_tokens : Data → List (List ℕ) → Option Path
+path_of_tokens document [] = None
+path_of_tokens document ([] ∷ tokens) = path_along tokens document
+path_of_tokens document ((c ∷ cs) ∷ tokens) = None
 
-abbrev pub path_of_reference : List ℕ → Option Path
-path_of_reference [] = None
-path_of_reference (c ∷ pointer) =
-    if c == byte "#" then path_of_tokens (slice_split (λ b. b == byte "/") pointer) else None
+abbrev pub path_of_pointer : Data → List ℕ → Option Path
+path_of_pointer document pointer =
+    path_of_tokens document (slice_split (λ b. b == byte "/") pointer)
 
--- a schema is an object or a boolean (Core, section 4.3)
+-- what a fragment stands for, where that is a text
+abbrev pub decoded : List ℕ → Option (List ℕ)
+decoded fragment =
+    if is_utf8 (percent_decode fragment) then Some (percent_decode fragment) else None
+
+abbrev pub path_of_reference : Data → List ℕ → Option Path
+path_of_reference document [] = None
+path_of_reference document (c ∷ fragment) =
+    if c == byte "#" then option_and_then (path_of_pointer document) (decoded fragment) else None
+
+-- a schema is an object or a boolean (Core 2020-12, section 4.3)
 abbrev pub is_schema : Data → Bool
 is_schema null = false
 is_schema (boolean b) = true
@@ -33,4 +73,5 @@ if_schema path d = if is_schema d then Some path else None
 -- the path to the schema to which a reference leads
 abbrev pub schema_referred : Data → List ℕ → Option Path
 schema_referred document text = option_and_then
-    (λ path. option_and_then (if_schema path) (value_at path document)) (path_of_reference text)
+    (λ path. option_and_then (if_schema path) (value_at path document))
+    (path_of_reference document text)

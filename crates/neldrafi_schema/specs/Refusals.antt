@@ -1,15 +1,16 @@
 -- Why a schema document is refused, and where.
-use Rattle.std.specs.Prelude.{◌≡◌, ℕ, zero, suc, List, [], ◌∷◌, ◌++◌, Bool, true, false, ◌&&◌}
+use Rattle.std.specs.Prelude.{◌≡◌, ℕ, zero, suc, List, [], ◌∷◌, ◌++◌, map, Bool, true, false, not, ◌&&◌, ◌||◌}
 use Rattle.std.specs.Prelude.{Option, Some, None, length, slice_get, if◌then◌else◌}
 use Rattle.std.specs.List.{AllByRecursion, list_all}
 use Rattle.serde_json.specs.Data.{Data}
 use Rattle.strkw_keywords.specs.Object.{Settings}
-use Rattle.neldrafi_schema.specs.Paths.{Path, location_of, StandsBefore}
+use Rattle.neldrafi_schema.specs.Paths.{Path, key, location_of, StandsBefore}
 use Rattle.neldrafi_schema.specs.Schemas.{Reason, wrong_type, circular_reference}
-use Rattle.neldrafi_schema.specs.Schemas.{Keyword, types, required, negation, properties}
-use Rattle.neldrafi_schema.specs.Schemas.{reference, string_keyword, malformed}
+use Rattle.neldrafi_schema.specs.Schemas.{Rule, reference, all_of, dependent, negation, any_of, one_of}
+use Rattle.neldrafi_schema.specs.Schemas.{where_valid, where_not_valid, Branch, Keyword, rule, malformed}
 use Rattle.neldrafi_schema.specs.Schemas.{Body, always, never, keywords, neither, Schema}
-use Rattle.neldrafi_schema.specs.Reading.{Says, reference_name}
+use Rattle.neldrafi_schema.specs.Drafts.{reference_name}
+use Rattle.neldrafi_schema.specs.Reading.{Says}
 
 -- a reason, and the path to the value that is refused
 abbrev pub Problem : Type 0
@@ -18,7 +19,7 @@ Problem = Path × Reason
 -- ---- what has no meaning
 
 abbrev pub keyword_problems : Path → Keyword → List Problem
-keyword_problems path (malformed name why) = (path ++ name ∷ [], why) ∷ []
+keyword_problems path (malformed below why) = (path ++ below, why) ∷ []
 keyword_problems path other = []
 
 abbrev pub keywords_problems : Path → List Keyword → List Problem
@@ -39,15 +40,25 @@ problems (path ∷ paths) (t ∷ ts) = body_problems path t.body ++ problems pat
 
 -- ---- references that come to no end
 
+-- whether a rule's schemas are of the whole instance
+abbrev pub is_in_place : Rule → Bool
+is_in_place reference = true
+is_in_place all_of = true
+is_in_place (dependent names) = true
+is_in_place (negation schema) = true
+is_in_place any_of = true
+is_in_place one_of = true
+is_in_place where_valid = true
+is_in_place where_not_valid = true
+is_in_place other = false
+
+abbrev pub schemas_in : List Branch → List ℕ
+schemas_in bs = map (λ b. b.schema) bs
+
 -- the schemas to which a keyword leads without entering the instance
 abbrev pub in_place : Keyword → List ℕ
-in_place (types ts) = []
-in_place (required names) = []
-in_place (negation n schema) = n ∷ []
-in_place (properties ps) = []
-in_place (reference n) = n ∷ []
-in_place (string_keyword asserted) = []
-in_place (malformed name why) = []
+in_place (rule name r bs) = if is_in_place r then schemas_in bs else []
+in_place other = []
 
 abbrev pub keywords_end : (ℕ → Bool) → List Keyword → Bool
 keywords_end end [] = true
@@ -68,9 +79,14 @@ unfoldable pub ends : List Schema → ℕ → ℕ → Bool
 ends schemas zero n = false
 ends schemas (suc steps) n = schema_ends (ends schemas steps) (slice_get schemas n)
 
+abbrev pub is_reference : Rule → Bool
+is_reference reference = true
+is_reference other = false
+
 abbrev pub keyword_endless : (ℕ → Bool) → Path → Keyword → List Problem
-keyword_endless end path (reference n) =
-    if end n then [] else (path ++ reference_name ∷ [], circular_reference) ∷ []
+keyword_endless end path (rule name r bs) =
+    if not (is_reference r) || list_all end (schemas_in bs) then []
+    else (path ++ key reference_name ∷ [], circular_reference) ∷ []
 keyword_endless end path other = []
 
 abbrev pub keywords_endless : (ℕ → Bool) → Path → List Keyword → List Problem
@@ -89,8 +105,8 @@ schemas_endless end (path ∷ paths) (t ∷ ts) =
 
 -- ---- the first
 
--- All that is refused. Where each reference comes to an end, each way does: the schema of `not` stands
--- further down in the document.
+-- All that is refused. Where each reference comes to an end, each way does: every other schema stands
+-- further down in the document, or that of `if` beside.
 abbrev pub refused : List Path → List Schema → List Problem
 refused paths schemas = problems paths schemas
     ++ schemas_endless (ends schemas (length schemas)) paths schemas

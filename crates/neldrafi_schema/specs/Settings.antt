@@ -1,5 +1,6 @@
 -- What a schema is compiled under.
-use Rattle.std.specs.Prelude.{◌≡◌, ℕ, List, [], ◌∷◌, Bool, true, false, None, slice_set}
+use Rattle.std.specs.Prelude.{◌≡◌, ℕ, List, [], ◌∷◌, Bool, true, false, None, slice_set, unwrap_or}
+use Rattle.serde_json.specs.Data.{Data}
 use Rattle.strkw_report.specs.declared.draft.Draft.TheVariants.{Draft202012}
 use Rattle.strkw_pattern.specs.declared.engine.Outcome.{Outcome}
 use Rattle.strkw_keywords.specs.declared.keyword.Keyword.{Keyword}
@@ -9,6 +10,7 @@ use Rattle.strkw_keywords.specs.Keywords.{keyword_place}
 use Rattle.strkw_keywords.specs.Meanings.{Decoded}
 use Rattle.strkw_keywords.specs.Object.{Settings, default_options}
 use Rattle.neldrafi_schema.specs.declared.config.Config.{Config}
+use Rattle.neldrafi_schema.specs.Drafts.{draft_of}
 use Rattle.neldrafi_schema.specs.Paths.{Path, location_of}
 
 -- by the meanings of the builder and of the boxes that the lists hold
@@ -18,7 +20,7 @@ abbrev pub config_settings : {B X : Type 0} {F : X → Type 0} {Y : Type 0} {M :
     → ((z : Z) × C z → List ℕ → Bool) → ((z : Z) × C z → List ℕ → Decoded)
     → Config B X Y Z F M C → Settings
 config_settings takes outcome admits accepts is_encoding decoding config = record {
-  draft = Draft202012;
+  draft = unwrap_or config.draft Draft202012;
   place = record { schema = []; prefix = None };
   options = record default_options {
     validate_formats = config.validate_formats;
@@ -28,6 +30,10 @@ config_settings takes outcome admits accepts is_encoding decoding config = recor
   takes = takes config.builder.now;
   outcome = outcome config.builder.now;
 }
+
+-- the same, with the draft of a document
+abbrev pub document_settings : Settings → Data → Settings
+document_settings s document = record s { draft = draft_of s.draft document }
 
 -- every keyword is left out but one
 abbrev pub all_but : Keyword → List Bool

@@ -1,11 +1,12 @@
--- The types of JSON values (JSON Schema Core 2020-12, section 4.2.1; Validation, section 6.1.1).
-use Rattle.std.specs.Prelude.{ℕ, List, Bool, true, false, Float, Option, Some, None, codes}
-use Rattle.std.specs.Prelude.{if◌then◌else◌}
+-- The types of JSON values (Core 2020-12, section 4.2.1; Validation, section 6.1.1; draft 4,
+-- section 3.5 of Core).
+use Rattle.std.specs.Prelude.{ℕ, List, Bool, true, false, not, ◌||◌, ◌&&◌, Option, Some, None}
+use Rattle.std.specs.Prelude.{codes, if◌then◌else◌, option_map, unwrap_or}
 use Rattle.std.specs.Str.{bytes_eq}
-use Rattle.std.specs.Float.{trunc}
-use Rattle.std.specs.Float.Ieee.{binary64, eq}
-use Rattle.serde_json.specs.Data.{Num, unsigned, negative, float, Data, null, boolean, number}
+use Rattle.serde_json.specs.Find.{as_number, is_float}
+use Rattle.serde_json.specs.Data.{Num, Data, null, boolean, number}
 use Rattle.serde_json.specs.Data.{string, array, object}
+use Rattle.neldrafi_schema.specs.Numbers.{is_whole}
 use Rattle.neldrafi_schema.specs.declared.json_type.JsonType.{JsonType}
 use Rattle.neldrafi_schema.specs.declared.json_type.JsonType.TheVariants.{Null, Boolean, Integer}
 use Rattle.neldrafi_schema.specs.declared.json_type.JsonType.TheVariants.{Number, String, Array}
@@ -30,13 +31,6 @@ type_named name =
     else (if bytes_eq name (type_name Array) then Some Array
     else (if bytes_eq name (type_name Object) then Some Object else None))))))
 
--- a number has no fractional part: it is kept as a whole number, or it is a float that is its own
--- whole part
-abbrev pub is_whole : Num → Bool
-is_whole (unsigned n) = true
-is_whole (negative z) = true
-is_whole (float x) = eq (trunc binary64 x) x
-
 -- of a number, whether it is of a type
 abbrev pub is_number_of : JsonType → Num → Bool
 is_number_of Integer x = is_whole x
@@ -51,3 +45,14 @@ is_of_type String (string s) = true
 is_of_type Array (array ds) = true
 is_of_type Object (object ms) = true
 is_of_type other d = false
+
+abbrev pub is_float_data : Data → Bool
+is_float_data d = unwrap_or (option_map is_float (as_number d)) false
+
+abbrev pub is_integer_type : JsonType → Bool
+is_integer_type Integer = true
+is_integer_type other = false
+
+-- The same, where no float is an integer: so it is in draft 4, unless they count.
+abbrev pub counts_as : Bool → JsonType → Data → Bool
+counts_as floats t d = is_of_type t d && (floats || not (is_integer_type t && is_float_data d))

@@ -8,3 +8,5 @@ pub mod Problems
 pub mod Said
 pub mod Words
 pub mod Sound
+pub mod Single
+pub mod Leads

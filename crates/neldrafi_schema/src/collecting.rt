@@ -1,22 +1,21 @@
 //! The errors of an instance, in the order of the keywords.
 
-ghost use Rattle.std.specs.Prelude.{◌≡◌, ◌<◌, ◌≤◌, ◌∷◌, ℕ, IfOk, OnOk, [], codes, if◌then◌else◌, length, map, string_bytes, true};
-ghost use Rattle.std.specs.List.{AllByRecursion, list_all, list_any};
+ghost use Rattle.std.specs.Prelude.{◌≡◌, ◌<◌, ◌≤◌, ◌∷◌, ℕ, IfOk, OnOk, [], length, map, string_bytes, true};
+ghost use Rattle.std.specs.List.{AllByRecursion, list_all};
 ghost use Rattle.serde_json.specs.View.{view};
 ghost use Rattle.strkw_keywords.specs.Meanings.{Lists};
-ghost use Rattle.neldrafi_schema.specs.machine.Closures.{Finds, MayFind, MayTest, Tests};
-ghost use Rattle.neldrafi_schema.specs.machine.Compiled.{keyword_of, properties_of, schemas_of};
-ghost use Rattle.neldrafi_schema.specs.Errors.{not_of_types, of_text};
-ghost use Rattle.neldrafi_schema.specs.machine.Found.{Appended, kind_of};
-ghost use Rattle.neldrafi_schema.specs.Meaning.{KeywordReports, PropertiesReport, Reports, error_of, error_of_false, evaluated_below, property_below, required_errors};
-ghost use Rattle.neldrafi_schema.specs.machine.Ready.{IsKeywordReady, IsReady, steps_for};
+ghost use Rattle.neldrafi_schema.specs.Errors.{of_text};
+ghost use Rattle.neldrafi_schema.specs.Meaning.{KeywordReports, Reports, error_of, error_of_false, site_of};
 ghost use Rattle.neldrafi_schema.specs.Refusals.{ends, in_place};
-ghost use Rattle.neldrafi_schema.specs.Types.{is_of_type};
+ghost use Rattle.neldrafi_schema.specs.machine.Closures.{Finds, MayFind, MayTest, Tests};
+ghost use Rattle.neldrafi_schema.specs.machine.Compiled.{keyword_of, keywords_of, ruled_of, schemas_of, seen_data, target_of};
+ghost use Rattle.neldrafi_schema.specs.machine.Found.{Appended, kind_of, kinds_of};
+ghost use Rattle.neldrafi_schema.specs.machine.Ready.{IsKeywordReady, IsReady, IsRuledReady, steps_for};
 
 use crate::error::{ErrorKind, Failure, ValidationError};
-use crate::json_type::JsonType;
-use crate::node::{Body, Keyword, Node, Property};
-use crate::validity::{Checker, is_of_some};
+use crate::node::{Body, Keyword, Node, Ruled};
+use crate::targets::Target;
+use crate::validity::Checker;
 use serde_json::Value;
 use std::alloc::{AllocError, Global};
 use strkw_keywords::Validator;
@@ -30,7 +29,7 @@ pub(crate) struct Visit<'a> {
     pub site: &'a Site,
 }
 
-/// A checker, and what finds the errors of an instance by a string keyword.
+/// A checker, and what finds the errors of a text by a string keyword.
 #[derive(Clone, Copy)]
 pub(crate) struct Collector<'s, E, T, F> {
     pub checker: Checker<'s, E, T>,
@@ -40,8 +39,8 @@ pub(crate) struct Collector<'s, E, T, F> {
 impl<E, T, F> Collector<'_, E, T, F>
 where
     E: RegexEngine,
-    T: Fn(&Validator<E>, &Value) -> Result<bool, AllocError>,
-    F: Fn(&Validator<E>, &Value, &Site) -> Result<Vec<TextError>, AllocError>,
+    T: Fn(&Validator<E>, Option<&str>) -> Result<bool, AllocError>,
+    F: Fn(&Validator<E>, Option<&str>, &Site) -> Result<Vec<TextError>, AllocError>,
 {
     // Appends the errors of an instance by the schema of a number, or some of them where it is out of memory. The ways
     // from the schema that do not enter the instance end within so many steps.
@@ -58,6 +57,8 @@ where
             self.now.checker.nodes.now }
         requires finds { IsReady E.outcome (MayFind F.Fn self.now.text_errors.now)
             self.now.checker.nodes.now }
+        requires answers { (lists : Lists)
+            × Tests T.Fn self.now.checker.text_accepts.now E.outcome lists }
         requires end { ends (schemas_of E.outcome self.now.checker.nodes.now) steps number ≡ true }
         ensures { (lists : Lists) → Tests T.Fn self.now.checker.text_accepts.now E.outcome lists
             → Finds F.Fn self.now.text_errors.now E.outcome lists → (k : ℕ)
@@ -72,8 +73,7 @@ where
             Body::Never => push_false(node, visit, errors),
             Body::Keywords(keywords) => {
                 for keyword in keywords {
-                    let location = &node.location;
-                    self.push_keyword(alloc, location, keyword, steps - 1, visit, errors)?;
+                    self.push_keyword(alloc, node, keywords, keyword, steps - 1, visit, errors)?;
                 }
                 Ok(())
             }
@@ -84,7 +84,8 @@ where
     fn push_keyword(
         &self,
         alloc: Global,
-        location: &Location,
+        node: &Node<E>,
+        beside: &[Keyword<E>],
         keyword: &Keyword<E>,
         steps: usize,
         visit: &Visit<'_>,
@@ -94,51 +95,44 @@ where
             self.now.checker.nodes.now }
         requires finds { IsReady E.outcome (MayFind F.Fn self.now.text_errors.now)
             self.now.checker.nodes.now }
-        requires this { IsKeywordReady (MayFind F.Fn self.now.text_errors.now)
+        requires answers { (lists : Lists)
+            × Tests T.Fn self.now.checker.text_accepts.now E.outcome lists }
+        requires this { IsKeywordReady E.outcome (MayFind F.Fn self.now.text_errors.now)
             (length self.now.checker.nodes.now) keyword.now }
+        requires also { IsKeywordReady E.outcome (MayTest T.Fn self.now.checker.text_accepts.now)
+            (length self.now.checker.nodes.now) keyword.now }
+        requires others { AllByRecursion (IsKeywordReady E.outcome
+            (MayTest T.Fn self.now.checker.text_accepts.now)
+            (length self.now.checker.nodes.now)) beside.now }
         requires end { list_all (ends (schemas_of E.outcome self.now.checker.nodes.now) steps)
             (in_place (keyword_of E.outcome keyword.now)) ≡ true }
         ensures { (lists : Lists) → Tests T.Fn self.now.checker.text_accepts.now E.outcome lists
             → Finds F.Fn self.now.text_errors.now E.outcome lists → (k : ℕ)
             → steps_for (length self.now.checker.nodes.now) (view visit.now.instance.now) steps ≤ k
             → OnOk result (Appended (KeywordReports
-            (Reports (schemas_of E.outcome self.now.checker.nodes.now) lists k) lists location.now
-            (keyword_of E.outcome keyword.now) (view visit.now.instance.now) visit.now.site.now)
-            errors.old.items errors.new.items) }
+            (Reports (schemas_of E.outcome self.now.checker.nodes.now) lists k) lists node.now.location
+            (keywords_of E.outcome beside.now) (keyword_of E.outcome keyword.now)
+            (view visit.now.instance.now) visit.now.site.now) errors.old.items errors.new.items) }
     {
         match keyword {
-            Keyword::Types(types) => push_unless_of_some(types, location, visit, errors),
-            Keyword::Required(names) => push_missing(names, location, visit, errors),
-            Keyword::Not(number, schema) => {
-                if !self.checker.accepts(alloc, *number, steps, visit.instance)? {
-                    return Ok(());
-                }
-                let schema = schema.clone()?;
-                push_at("not", ErrorKind::Not { schema }, location, visit, errors)
-            }
-            Keyword::Properties(properties) => {
-                self.push_properties(alloc, properties, visit, errors)
-            }
-            Keyword::Ref(number) => {
-                let site = evaluated_below(visit.site, "$ref")?;
-                let visit = Visit {
-                    instance: visit.instance,
-                    site: &site,
-                };
-                self.push_errors(alloc, *number, steps, &visit, errors)
+            Keyword::Rule(ruled) => {
+                self.push_rule(alloc, node, beside, ruled, steps, visit, errors)
             }
             Keyword::Text(validator) => {
-                let found = (self.text_errors)(validator, visit.instance, visit.site)?;
-                push_texts(found, errors)
+                let text = visit.instance.as_str();
+                push_texts((self.text_errors)(validator, text, visit.site)?, errors)
             }
         }
     }
 
     #[cycle(push)]
-    fn push_properties(
+    fn push_rule(
         &self,
         alloc: Global,
-        properties: &[Property],
+        node: &Node<E>,
+        beside: &[Keyword<E>],
+        ruled: &Ruled<E>,
+        steps: usize,
         visit: &Visit<'_>,
         errors: &mut Vec<ValidationError>,
     ) -> Result<(), AllocError>
@@ -146,75 +140,85 @@ where
             self.now.checker.nodes.now }
         requires finds { IsReady E.outcome (MayFind F.Fn self.now.text_errors.now)
             self.now.checker.nodes.now }
-        requires inside { AllByRecursion (λ p. p.schema < length self.now.checker.nodes.now)
-            properties.now }
+        requires answers { (lists : Lists)
+            × Tests T.Fn self.now.checker.text_accepts.now E.outcome lists }
+        requires this { IsRuledReady E.outcome (MayTest T.Fn self.now.checker.text_accepts.now)
+            (length self.now.checker.nodes.now) ruled.now }
+        requires others { AllByRecursion (IsKeywordReady E.outcome
+            (MayTest T.Fn self.now.checker.text_accepts.now)
+            (length self.now.checker.nodes.now)) beside.now }
+        requires end { list_all (ends (schemas_of E.outcome self.now.checker.nodes.now) steps)
+            (in_place (ruled_of E.outcome ruled.now)) ≡ true }
         ensures { (lists : Lists) → Tests T.Fn self.now.checker.text_accepts.now E.outcome lists
             → Finds F.Fn self.now.text_errors.now E.outcome lists → (k : ℕ)
-            → steps_for (length self.now.checker.nodes.now) (view visit.now.instance.now) 0 ≤ k
-            → OnOk result (Appended (PropertiesReport
-            (Reports (schemas_of E.outcome self.now.checker.nodes.now) lists k)
-            (properties_of properties.now) (view visit.now.instance.now) visit.now.site.now)
-            errors.old.items errors.new.items) }
+            → steps_for (length self.now.checker.nodes.now) (view visit.now.instance.now) steps ≤ k
+            → OnOk result (Appended (KeywordReports
+            (Reports (schemas_of E.outcome self.now.checker.nodes.now) lists k) lists node.now.location
+            (keywords_of E.outcome beside.now) (ruled_of E.outcome ruled.now)
+            (view visit.now.instance.now) visit.now.site.now) errors.old.items errors.new.items) }
     {
-        for property in properties {
-            let name = property.name.as_str();
-            if let Some(value) = visit.instance.get(name) {
-                let site = property_below(visit.site, name)?;
-                let visit = Visit {
-                    instance: value,
-                    site: &site,
-                };
-                self.push_errors(
-                    alloc,
-                    property.schema,
-                    self.checker.nodes.len(),
-                    &visit,
-                    errors,
-                )?;
-            }
+        let checker = &self.checker;
+        let verdicts = checker.verdicts(alloc, ruled, steps, visit.instance)?;
+        let kinds = checker.kinds(alloc, beside, ruled, visit.instance, &verdicts)?;
+        push_kinds(ruled.name.as_str(), kinds, &node.location, visit, errors)?;
+        let left = checker.steps_below(ruled, steps);
+        for target in &checker.applied(alloc, beside, ruled, visit.instance, &verdicts)? {
+            self.push_target(alloc, ruled, target, left, visit, errors)?;
         }
         Ok(())
     }
-}
 
-// One keyword further on the way of evaluation.
-fn evaluated_below(site: &Site, keyword: &str) -> Result<Site, AllocError>
-    ensures { IfOk result (λ below. below ≡ evaluated_below site.now keyword.now) }
-{
-    Ok(Site {
-        evaluation: site.evaluation.join(keyword)?,
-        instance: site.instance.clone()?,
-    })
-}
-
-// The schema of a property, at the member of that name.
-fn property_below(site: &Site, name: &str) -> Result<Site, AllocError>
-    ensures { IfOk result (λ below. below ≡ property_below site.now name.now) }
-{
-    Ok(Site {
-        evaluation: site.evaluation.join("properties")?.join(name)?,
-        instance: site.instance.join(name)?,
-    })
-}
-
-// Appends an error where an instance is of none of the types.
-fn push_unless_of_some(
-    types: &Vec<JsonType>,
-    location: &Location,
-    visit: &Visit<'_>,
-    errors: &mut Vec<ValidationError>,
-) -> Result<(), AllocError>
-    ensures { OnOk result (Appended (λ es. es ≡
-        (if list_any (λ t. is_of_type t (view visit.now.instance.now)) types.now.items then []
-        else error_of location.now visit.now.site.now (codes "type")
-        (not_of_types types.now.items) (view visit.now.instance.now) ∷ []))
-        errors.old.items errors.new.items) }
-{
-    if is_of_some(types, visit.instance) {
-        return Ok(());
+    #[cycle(push)]
+    fn push_target(
+        &self,
+        alloc: Global,
+        ruled: &Ruled<E>,
+        target: &Target<'_>,
+        steps: usize,
+        visit: &Visit<'_>,
+        errors: &mut Vec<ValidationError>,
+    ) -> Result<(), AllocError>
+        requires tests { IsReady E.outcome (MayTest T.Fn self.now.checker.text_accepts.now)
+            self.now.checker.nodes.now }
+        requires finds { IsReady E.outcome (MayFind F.Fn self.now.text_errors.now)
+            self.now.checker.nodes.now }
+        requires answers { (lists : Lists)
+            × Tests T.Fn self.now.checker.text_accepts.now E.outcome lists }
+        requires end { ends (schemas_of E.outcome self.now.checker.nodes.now) steps
+            target.now.schema ≡ true }
+        ensures { (lists : Lists) → Tests T.Fn self.now.checker.text_accepts.now E.outcome lists
+            → Finds F.Fn self.now.text_errors.now E.outcome lists → (k : ℕ)
+            → steps_for (length self.now.checker.nodes.now) (seen_data target.now.value) steps ≤ k
+            → OnOk result (Appended (Reports (schemas_of E.outcome self.now.checker.nodes.now)
+            lists k target.now.schema (seen_data target.now.value)
+            (site_of visit.now.site.now (string_bytes ruled.now.name) (target_of target.now)))
+            errors.old.items errors.new.items) }
+    {
+        let site = site_of(alloc, visit.site, ruled.name.as_str(), target)?;
+        let below = Visit {
+            instance: target.value.as_value(),
+            site: &site,
+        };
+        self.push_errors(alloc, target.schema, steps, &below, errors)
     }
-    let types = types.clone()?;
-    push_at("type", ErrorKind::Type { types }, location, visit, errors)
+}
+
+// Where the schema and the value of a target stand.
+fn site_of(alloc: Global, site: &Site, word: &str, target: &Target<'_>) -> Result<Site, AllocError>
+    ensures { IfOk result (λ below. below ≡ site_of site.now word.now (target_of target.now)) }
+{
+    let mut evaluation = site.evaluation.join(word)?;
+    if let Some(step) = target.way {
+        evaluation = step.below(alloc, &evaluation)?;
+    }
+    let instance = match target.inside {
+        Some(step) => step.below(alloc, &site.instance)?,
+        None => site.instance.clone()?,
+    };
+    Ok(Site {
+        evaluation,
+        instance,
+    })
 }
 
 // Appends the errors of a string keyword.
@@ -228,26 +232,20 @@ fn push_texts(found: Vec<TextError>, errors: &mut Vec<ValidationError>) -> Resul
     Ok(())
 }
 
-// Appends an error for each name that an object has not; any other value lacks none.
-fn push_missing(
-    names: &[String],
+// Appends the errors of a keyword of the schema at a location.
+fn push_kinds(
+    keyword: &str,
+    kinds: Vec<ErrorKind>,
     location: &Location,
     visit: &Visit<'_>,
     errors: &mut Vec<ValidationError>,
 ) -> Result<(), AllocError>
-    ensures { OnOk result (Appended (λ es. es ≡ required_errors location.now visit.now.site.now
-        (view visit.now.instance.now) (map string_bytes names.now))
+    ensures { OnOk result (Appended (λ es. es ≡ map (error_of location.now visit.now.site.now
+        keyword.now (view visit.now.instance.now)) (kinds_of kinds.items))
         errors.old.items errors.new.items) }
 {
-    if !visit.instance.is_object() {
-        return Ok(());
-    }
-    for name in names {
-        if visit.instance.get(name.as_str()).is_none() {
-            let property = name.clone()?;
-            let kind = ErrorKind::Required { property };
-            push_at("required", kind, location, visit, errors)?;
-        }
+    for kind in kinds {
+        push_at(keyword, kind, location, visit, errors)?;
     }
     Ok(())
 }
@@ -261,7 +259,7 @@ fn push_at(
     errors: &mut Vec<ValidationError>,
 ) -> Result<(), AllocError>
     ensures { OnOk result (Appended (λ es. es ≡ error_of location.now visit.now.site.now keyword.now
-        (kind_of kind) (view visit.now.instance.now) ∷ []) errors.old.items errors.new.items) }
+        (view visit.now.instance.now) (kind_of kind) ∷ []) errors.old.items errors.new.items) }
 {
     let failure = Failure {
         kind,

@@ -6,21 +6,23 @@ ghost use Rattle.strkw_keywords.specs.Handed.{lists_of};
 ghost use Rattle.neldrafi_schema.specs.machine.Compiled.{schemas_of};
 ghost use Rattle.neldrafi_schema.specs.Paths.{location_of};
 ghost use Rattle.neldrafi_schema.specs.machine.Problems.{problem_of, reason_of};
-ghost use Rattle.neldrafi_schema.specs.machine.Ready.{IsReady, RestsOn};
+ghost use Rattle.neldrafi_schema.specs.machine.Words.{AreReady};
 ghost use Rattle.neldrafi_schema.specs.Refusals.{IsRefused, IsSaid};
 ghost use Rattle.neldrafi_schema.specs.Schemas.{out_of_memory};
 ghost use Rattle.neldrafi_schema.specs.Settings.{config_settings};
 
 use crate::config::Config;
 use crate::ends::{ending, note_endless_references};
+use crate::known::draft_of;
 use crate::node::Node;
 use crate::places::{Places, path_copy};
 use crate::problem::Problem;
-use crate::reading::read_schema;
+use crate::reading::Reader;
 use crate::refusal::SchemaError;
 use serde_json::Value;
 use std::alloc::{AllocError, Global};
 use strkw_pattern::EngineBuilder;
+use strkw_report::Draft;
 
 /// The nodes of a document, or the first problem that it has.
 pub(crate) fn read_document<B: EngineBuilder>(
@@ -30,9 +32,10 @@ pub(crate) fn read_document<B: EngineBuilder>(
 ) -> Result<Vec<Node<B::Engine>>, SchemaError>
     ensures said { let s = config_settings B.takes B.outcome admits accepts is_encoding decoding
         config.now in
-        IfOk result (λ nodes. IsSaid s (view document.now) (schemas_of B.Engine.outcome nodes.items)) }
-    ensures ready { IfOk result (λ nodes. IsReady B.Engine.outcome (RestsOn B.Engine.outcome
-        (lists_of admits accepts is_encoding decoding config.now.checks)) nodes.items) }
+        IfOk result (λ nodes. IsSaid s (view document.now)
+        (schemas_of B.Engine.outcome nodes.items)) }
+    ensures ready { IfOk result (λ nodes. AreReady B.Engine.outcome
+        (lists_of admits accepts is_encoding decoding config.now.checks) nodes.items) }
     ensures refused { let s = config_settings B.takes B.outcome admits accepts is_encoding decoding
         config.now in
         IfErr result (λ e. (reason_of e.kind ≡ out_of_memory)
@@ -55,14 +58,20 @@ fn nodes_of<B: EngineBuilder>(
         config.now in
         IfOk result (λ r. IfOk r (λ nodes. IsSaid s (view document.now)
         (schemas_of B.Engine.outcome nodes.items))) }
-    ensures ready { IfOk result (λ r. IfOk r (λ nodes. IsReady B.Engine.outcome (RestsOn B.Engine.outcome
-        (lists_of admits accepts is_encoding decoding config.now.checks)) nodes.items)) }
+    ensures ready { IfOk result (λ r. IfOk r (λ nodes. AreReady B.Engine.outcome
+        (lists_of admits accepts is_encoding decoding config.now.checks) nodes.items)) }
     ensures refused { let s = config_settings B.takes B.outcome admits accepts is_encoding decoding
         config.now in
         IfOk result (λ r. IfErr r (λ p. IsRefused s (view document.now) (problem_of p).1
         (location_of (problem_of p).0))) }
 {
     let mut places = Places::of(alloc, document)?;
+    let reader = Reader {
+        alloc,
+        config,
+        draft: draft_of(config.draft.unwrap_or(Draft::Draft202012), document),
+        document,
+    };
     let mut nodes = Vec::new(alloc);
     let mut first = None;
     for number in 0..usize::MAX {
@@ -71,7 +80,7 @@ fn nodes_of<B: EngineBuilder>(
         };
         let path = path_copy(alloc, &place.path)?;
         let value = place.value;
-        let node = read_schema(alloc, config, &path, value, &mut places, &mut first)?;
+        let node = reader.read_schema(&path, value, &mut places, &mut first)?;
         nodes.push(node)?;
     }
     let end = ending(alloc, &nodes)?;

@@ -13,7 +13,9 @@ use strkw_report::{Draft, Location};
 /// What a schema is compiled under.
 #[derive(Drop)]
 pub struct Config<'a, B> {
-    /// Whether formats are checked. `None` leaves it to the draft, and draft 2020-12 does not check them.
+    /// The draft of documents that have no `$schema`. `None` is draft 2020-12.
+    pub draft: Option<Draft>,
+    /// Whether formats are checked. `None` leaves it to the draft: drafts 4, 6 and 7 check them.
     pub validate_formats: Option<bool>,
     /// Whether a checked format that is not known adds nothing. If not, it is refused.
     pub ignore_unknown_formats: bool,
@@ -24,10 +26,11 @@ pub struct Config<'a, B> {
 }
 
 impl<'a, B> Config<'a, B> {
-    /// Formats as the draft has them, unknown ones ignored, and no checks but the built-in ones. What is to be otherwise
-    /// is set in the fields. It takes no memory.
+    /// Draft 2020-12, formats as the draft has them, unknown ones ignored, and no checks but the built-in ones. What is
+    /// to be otherwise is set in the fields. It takes no memory.
     pub fn new(builder: &'a B) -> Config<'a, B> {
         Config {
+            draft: None,
             validate_formats: None,
             ignore_unknown_formats: true,
             checks: Checks {
@@ -44,13 +47,14 @@ impl<'a, B: EngineBuilder> Config<'a, B> {
     // What one string keyword of the schema at a location is compiled under: every other is left out.
     pub(crate) fn context(
         &self,
+        draft: Draft,
         location: &Location,
         keyword: Keyword,
     ) -> Result<Context<'a, B>, AllocError>
         ensures settings { (path : Path) → location.now ≡ location_of path
             → IfOk result (λ ctx. settings_of B.takes B.outcome admits accepts is_encoding decoding
-            ctx ≡ keyword_settings (config_settings B.takes B.outcome admits accepts is_encoding
-            decoding self.now) path keyword) }
+            ctx ≡ keyword_settings (record (config_settings B.takes B.outcome admits accepts
+            is_encoding decoding self.now) { draft = draft }) path keyword) }
     {
         let mut options = Options::default();
         options.validate_formats = self.validate_formats;
@@ -59,7 +63,7 @@ impl<'a, B: EngineBuilder> Config<'a, B> {
         overridden[keyword.place()] = false;
         options.overridden = overridden;
         Ok(Context {
-            draft: Draft::Draft202012,
+            draft,
             location: location.clone()?,
             absolute: None,
             options,

@@ -1,20 +1,22 @@
 //! References that lead back to themselves, and do not enter the instance on the way.
 
 ghost use Rattle.std.specs.Prelude.{◌≡◌, ◌++◌, ◌∷◌, ℕ, IfOk, OnOk, [], if◌then◌else◌, length, map, slice_get};
-ghost use Rattle.neldrafi_schema.specs.Paths.{Path};
-ghost use Rattle.neldrafi_schema.specs.Reading.{reference_name};
+ghost use Rattle.neldrafi_schema.specs.Paths.{Path, key};
+ghost use Rattle.neldrafi_schema.specs.Drafts.{reference_name};
 ghost use Rattle.neldrafi_schema.specs.Schemas.{circular_reference};
-ghost use Rattle.neldrafi_schema.specs.machine.Compiled.{body_of, keyword_of, schemas_of};
-ghost use Rattle.neldrafi_schema.specs.machine.Places.{path_of, paths_of};
+ghost use Rattle.neldrafi_schema.specs.machine.Compiled.{body_of, branches_of, keyword_of, schemas_of};
+ghost use Rattle.neldrafi_schema.specs.machine.Compiled.{path_of};
+ghost use Rattle.neldrafi_schema.specs.machine.Places.{paths_of};
 ghost use Rattle.neldrafi_schema.specs.machine.Problems.{Notes};
-ghost use Rattle.neldrafi_schema.specs.Refusals.{body_ends, ends, in_place, keyword_endless, keywords_endless, schema_ends, schemas_endless};
+ghost use Rattle.neldrafi_schema.specs.Refusals.{body_ends, ends, in_place, keyword_endless, keywords_endless, schema_ends, schemas_endless, schemas_in};
 ghost use Rattle.neldrafi_schema.specs.machine.Said.{flag_at};
 ghost use Rattle.std.specs.List.{list_all};
 
-use crate::node::{Body, Keyword, Node};
+use crate::node::{Body, Branch, Keyword, Node, Rule};
 use crate::places::{Place, path_below};
 use crate::problem::Problem;
 use crate::refusal::SchemaErrorKind;
+use crate::segment::{Segment, Step};
 use std::alloc::{AllocError, Global};
 use strkw_pattern::RegexEngine;
 
@@ -71,10 +73,20 @@ fn keyword_ends<E: RegexEngine>(keyword: &Keyword<E>, end: &[bool]) -> bool
     ensures { result ≡ list_all (flag_at end.now) (in_place (keyword_of E.outcome keyword.now)) }
 {
     match keyword {
-        Keyword::Not(number, _) => is_set(end, *number),
-        Keyword::Ref(number) => is_set(end, *number),
+        Keyword::Rule(ruled) if ruled.rule.is_in_place() => branches_end(&ruled.branches, end),
         _ => true,
     }
+}
+
+fn branches_end(branches: &[Branch], end: &[bool]) -> bool
+    ensures { result ≡ list_all (flag_at end.now) (schemas_in (branches_of branches.now)) }
+{
+    for branch in branches {
+        if !is_set(end, branch.schema) {
+            return false;
+        }
+    }
+    true
 }
 
 fn is_set(flags: &[bool], number: usize) -> bool
@@ -106,7 +118,7 @@ pub(crate) fn note_endless_references<E: RegexEngine>(
 // Notes those of the keywords of the schema at a path.
 fn note_endless<E: RegexEngine>(
     alloc: Global,
-    path: &[String],
+    path: &[Segment],
     keywords: &[Keyword<E>],
     end: &[bool],
     first: &mut Option<Problem>,
@@ -116,7 +128,7 @@ fn note_endless<E: RegexEngine>(
 {
     for keyword in keywords {
         if is_endless(keyword, end) {
-            let at = path_below(alloc, path, "$ref")?;
+            let at = path_below(alloc, path, Step::Key("$ref"))?;
             Problem::note(alloc, &at, SchemaErrorKind::CircularReference, first)?;
         }
     }
@@ -127,10 +139,13 @@ fn note_endless<E: RegexEngine>(
 fn is_endless<E: RegexEngine>(keyword: &Keyword<E>, end: &[bool]) -> bool
     ensures { (path : Path) → keyword_endless (flag_at end.now) path
         (keyword_of E.outcome keyword.now)
-        ≡ (if result then (path ++ reference_name ∷ [], circular_reference) ∷ [] else []) }
+        ≡ (if result then (path ++ key reference_name ∷ [], circular_reference) ∷ [] else []) }
 {
     match keyword {
-        Keyword::Ref(number) => !is_set(end, *number),
-        _ => false,
+        Keyword::Rule(ruled) => match ruled.rule {
+            Rule::Reference => !branches_end(&ruled.branches, end),
+            _ => false,
+        },
+        Keyword::Text(_) => false,
     }
 }

@@ -2,8 +2,9 @@
 
 ghost use Rattle.std.specs.Prelude.{◌≡◌};
 ghost use Rattle.serde_json.specs.View.{view};
-ghost use Rattle.neldrafi_schema.specs.Types.{is_of_type, type_name, type_named};
+ghost use Rattle.neldrafi_schema.specs.Types.{counts_as, is_of_type, type_name, type_named};
 
+use crate::numbers::is_whole;
 use serde_json::Value;
 
 /// A type of JSON values, as `type` names it (Validation, section 6.1.1).
@@ -71,25 +72,25 @@ impl JsonType {
         match self {
             JsonType::Null => value.is_null(),
             JsonType::Boolean => value.is_boolean(),
-            JsonType::Integer => is_whole(value),
+            JsonType::Integer => match value.as_number() {
+                Some(number) => is_whole(*number),
+                None => false,
+            },
             JsonType::Number => value.is_number(),
             JsonType::String => value.is_string(),
             JsonType::Array => value.is_array(),
             JsonType::Object => value.is_object(),
         }
     }
-}
 
-// Whether a value is a number with no fractional part.
-fn is_whole(value: &Value) -> bool
-    ensures { result ≡ is_of_type JsonType.Integer (view value.now) }
-{
-    match value.as_number() {
-        None => false,
-        Some(number) if number.is_f64() => match number.as_f64() {
-            Some(x) => x.trunc() == x,
+    // The same, but that no float is an integer, unless they count.
+    pub(crate) fn counts(self, floats: bool, value: &Value) -> bool
+        ensures { result ≡ counts_as floats self (view value.now) }
+    {
+        let is_float = match value.as_number() {
+            Some(number) => number.is_f64(),
             None => false,
-        },
-        Some(_) => true,
+        };
+        self.admits(value) && (floats || !(self == JsonType::Integer && is_float))
     }
 }

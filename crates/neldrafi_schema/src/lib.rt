@@ -5,22 +5,28 @@ mod collecting;
 mod compile;
 mod config;
 mod ends;
+mod equality;
 mod error;
 mod json_type;
+mod kinds;
+mod known;
 pub mod laws;
+mod limits;
 mod node;
+mod numbers;
 mod places;
 mod problem;
 mod reading;
 mod refusal;
 mod schema;
+mod segment;
+mod senses;
+mod targets;
 mod validity;
 
 pub use config::Config;
 pub use error::{ErrorKind, Failure, Fault, ValidationError};
 pub use json_type::JsonType;
+pub use limits::{Limit, Size};
 pub use refusal::{SchemaError, SchemaErrorKind};
 pub use schema::Schema;
-
-#[cfg(test)]
-mod tests;

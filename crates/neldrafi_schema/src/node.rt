@@ -1,7 +1,9 @@
-//! A compiled schema, as a vector of nodes: a subschema or a reference is the number of a node.
+//! A compiled schema, as a vector of nodes: a schema to which a keyword leads is the number of a node.
 
 use crate::json_type::JsonType;
-use serde_json::Value;
+use crate::limits::{Limit, Size};
+use crate::segment::Segment;
+use serde_json::{Number, Value};
 use strkw_keywords::Validator;
 use strkw_report::Location;
 
@@ -26,19 +28,95 @@ pub(crate) enum Body<E> {
 /// A keyword with its value.
 #[derive(Drop)]
 pub(crate) enum Keyword<E> {
-    Types(Vec<JsonType>),
-    Required(Vec<String>),
-    /// The subschema, and its JSON for the error.
-    Not(usize, Value),
-    Properties(Vec<Property>),
-    Ref(usize),
+    /// Any but the string keywords.
+    Rule(Ruled<E>),
     /// One of the string keywords.
     Text(Validator<E>),
 }
 
-/// A property, and the schema of its values.
+/// The rule of a keyword's name, and the schemas to which it leads.
 #[derive(Drop)]
-pub(crate) struct Property {
+pub(crate) struct Ruled<E> {
     pub name: String,
+    pub rule: Rule<E>,
+    pub branches: Vec<Branch>,
+}
+
+/// A schema to which a keyword leads, and its segment in the keyword's value, if it is part of it.
+#[derive(Drop)]
+pub(crate) struct Branch {
+    pub key: Option<Segment>,
     pub schema: usize,
+}
+
+/// Names that are required where another is there.
+#[derive(Drop)]
+pub(crate) struct Dependency {
+    pub name: String,
+    pub required: Vec<String>,
+}
+
+/// What a keyword says of instances, but for the schemas to which it leads.
+#[derive(Drop)]
+pub(crate) enum Rule<E> {
+    /// The types, and whether a float with no fractional part is an integer.
+    Types(bool, Vec<JsonType>),
+    Among(Vec<Value>),
+    EqualTo(Value),
+    Limited(Limit, Number),
+    MultipleOf(Number),
+    Sized(Size, u64),
+    Distinct,
+    Required(Vec<String>),
+    /// `$ref`, whose schema is of the instance itself.
+    Reference,
+    AllOf,
+    /// `dependencies`: names, and schemas of the instance where it has their key.
+    Dependent(Vec<Dependency>),
+    Properties,
+    /// `patternProperties`: the pattern of each schema.
+    Matching(Vec<Validator<E>>),
+    /// `additionalProperties`, of the members to which no rule beside leads.
+    OtherMembers,
+    NoOtherMembers,
+    MemberNames,
+    /// `items` with a schema for each place.
+    Placed,
+    /// `additionalItems`, or `items` with one schema: of the items that have none of their own.
+    OtherItems,
+    NoOtherItems,
+    /// `not`, with its schema's JSON for the error.
+    Negation(Value),
+    AnyOf,
+    OneOf,
+    Contains,
+    /// `then` and `else`: their schema, and that of `if`.
+    WhereValid,
+    WhereNotValid,
+    /// Nothing, but that the schemas are such.
+    Held,
+}
+
+impl<E> Rule<E> {
+    ghost use Rattle.std.specs.Prelude.{◌≡◌, ℕ, List};
+    ghost use Rattle.strkw_pattern.specs.declared.engine.Outcome.{Outcome};
+    ghost use Rattle.neldrafi_schema.specs.Refusals.{is_in_place};
+    ghost use Rattle.neldrafi_schema.specs.machine.Compiled.{rule_of};
+
+    /// Whether its schemas are of the instance itself.
+    pub fn is_in_place(&self) -> bool
+        ensures { (outcome : E → List ℕ → Outcome) → result ≡ is_in_place (rule_of outcome self.now) }
+    {
+        matches!(
+            self,
+            Rule::Reference
+                | Rule::AllOf
+                | Rule::Dependent(_)
+                | Rule::Negation(_)
+                | Rule::AnyOf
+                | Rule::OneOf
+                | Rule::WhereValid
+                | Rule::WhereNotValid
+        )
+    }
 }

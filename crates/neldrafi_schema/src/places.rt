@@ -1,40 +1,36 @@
 //! The schemas of a document, by number: where each stands, and where references lead.
 
-ghost use Rattle.std.specs.Prelude.{◌≡◌, ◌++◌, ◌∷◌, ℕ, List, IfOk, IfSome, OnOk, Some, None, [], length, map, option_map, slice_get, string_bytes};
+ghost use Rattle.std.specs.Prelude.{◌≡◌, ◌++◌, ◌∷◌, IfOk, IfSome, OnOk, [], map, option_map, string_bytes};
 ghost use Rattle.serde_json.specs.Find.{unescape};
 ghost use Rattle.serde_json.specs.View.{view};
-ghost use Rattle.neldrafi_schema.specs.Paths.{Path, location_of, value_at};
-ghost use Rattle.neldrafi_schema.specs.machine.Words.{after_tilde};
-ghost use Rattle.neldrafi_schema.specs.References.{is_schema, path_of_reference, schema_referred};
+ghost use Rattle.neldrafi_schema.specs.Paths.{location_of};
+ghost use Rattle.neldrafi_schema.specs.References.{decoded, is_schema, path_along, path_of_pointer, path_of_reference, place_named, schema_referred, segment_at};
+ghost use Rattle.neldrafi_schema.specs.machine.Compiled.{path_of, segment_of, step_of};
+ghost use Rattle.neldrafi_schema.specs.machine.Places.{IsPlace, place_path};
+ghost use Rattle.neldrafi_schema.specs.machine.Words.{after_tilde, begins_oddly};
 
+use crate::segment::{Segment, Step};
+use percent_encoding::percent_decode;
 use serde_json::Value;
 use std::alloc::{AllocError, Global};
 use strkw_report::Location;
 
-/// A schema of the document, and the keys that lead to it.
+/// A schema of the document, and the segments that lead to it.
 #[derive(Drop)]
 pub(crate) struct Place<'v> {
-    pub path: Vec<String>,
+    pub path: Vec<Segment>,
     pub value: &'v Value,
 }
 
-// A reference that was followed, and the number of the schema to which it leads.
-#[derive(Drop)]
-struct Target<'v> {
-    text: &'v str,
-    number: usize,
-}
-
-/// The schemas that are found so far, by number, and the references to them.
+/// The schemas that are found so far, by number.
 #[derive(Drop)]
 pub(crate) struct Places<'v> {
     pub document: &'v Value,
     pub places: Vec<Place<'v>>,
-    targets: Vec<Target<'v>>,
 }
 
 impl<'v> Places<'v> {
-    ghost use Rattle.neldrafi_schema.specs.machine.Places.{Grown, IsTable, StaysAt, StaysTarget, path_of, paths_of};
+    ghost use Rattle.neldrafi_schema.specs.machine.Places.{Grown, IsTable, StaysAt, paths_of};
 
     /// The root alone.
     pub fn of(alloc: Global, document: &'v Value) -> Result<Places<'v>, AllocError>
@@ -47,167 +43,196 @@ impl<'v> Places<'v> {
             path: Vec::new(alloc),
             value: document,
         })?;
-        Ok(Places {
-            document,
-            places,
-            targets: Vec::new(alloc),
-        })
+        Ok(Places { document, places })
     }
 
     /// Numbers the value at a path.
-    pub fn number_at(
-        &mut self,
-        alloc: Global,
-        path: &[String],
-        value: &'v Value,
-    ) -> Result<usize, AllocError>
+    pub fn number(&mut self, place: Place<'v>) -> Result<usize, AllocError>
         requires table { IsTable self.old }
-        requires there { value_at (path_of path.now) (view self.old.document.now)
-            ≡ Some (view value.now) }
+        requires there { IsPlace (view self.old.document.now) place }
         ensures number { IfOk result (λ n.
-            StaysAt (paths_of self.new.places.items) n (path_of path.now)) }
-        ensures grown { OnOk result (Grown self.old self.new) }
-    {
-        self.number(path_copy(alloc, path)?, value)
-    }
-
-    /// The number of the schema to which a reference leads, if it leads to one.
-    pub fn number_of_target(
-        &mut self,
-        alloc: Global,
-        text: &'v str,
-    ) -> Result<Option<usize>, AllocError>
-        requires { IsTable self.old }
-        ensures target { IfOk result (λ o. StaysTarget (paths_of self.new.places.items) o
-            (schema_referred (view self.old.document.now) text.now)) }
-        ensures grown { OnOk result (Grown self.old self.new) }
-    {
-        if let Some(number) = self.known_target(text) {
-            return Ok(Some(number));
-        }
-        let Some(path) = path_of_reference(alloc, text)? else {
-            return Ok(None);
-        };
-        match value_at(self.document, &path) {
-            Some(value) if is_schema(value) => {
-                let number = self.number(path, value)?;
-                self.targets.push(Target { text, number })?;
-                Ok(Some(number))
-            }
-            _ => Ok(None),
-        }
-    }
-
-    // The number of a target that was found before.
-    fn known_target(&self, text: &str) -> Option<usize>
-        requires { IsTable self.now }
-        ensures { IfSome result (λ n. StaysTarget (paths_of self.now.places.items) (Some n)
-            (schema_referred (view self.now.document.now) text.now)) }
-    {
-        for target in &self.targets {
-            if target.text == text {
-                return Some(target.number);
-            }
-        }
-        None
-    }
-
-    fn number(&mut self, path: Vec<String>, value: &'v Value) -> Result<usize, AllocError>
-        requires table { IsTable self.old }
-        requires there { value_at (path_of path.items) (view self.old.document.now)
-            ≡ Some (view value.now) }
-        ensures number { IfOk result (λ n.
-            StaysAt (paths_of self.new.places.items) n (path_of path.items)) }
+            StaysAt (paths_of self.new.places.items) n (place_path place.entry)) }
         ensures grown { OnOk result (Grown self.old self.new) }
     {
         let number = self.places.len();
-        self.places.push(Place { path, value })?;
+        self.places.push(place)?;
         Ok(number)
+    }
+
+    /// The number of the value at a path, which may have been numbered before.
+    pub fn number_known(&mut self, place: Place<'v>) -> Result<usize, AllocError>
+        requires table { IsTable self.old }
+        requires there { IsPlace (view self.old.document.now) place }
+        ensures number { IfOk result (λ n.
+            StaysAt (paths_of self.new.places.items) n (place_path place.entry)) }
+        ensures grown { OnOk result (Grown self.old self.new) }
+    {
+        for number in 0..self.places.len() {
+            if self.places[number].path == place.path {
+                return Ok(number);
+            }
+        }
+        self.number(place)
+    }
+
+    /// The schema to which a reference leads, if it leads to one.
+    pub fn target(&self, alloc: Global, text: &str) -> Result<Option<Place<'v>>, AllocError>
+        ensures path { IfOk result (λ o. option_map place_path o
+            ≡ schema_referred (view self.now.document.now) text.now) }
+        ensures there { IfOk result (λ o. IfSome o (IsPlace (view self.now.document.now))) }
+    {
+        match place_of_reference(alloc, self.document, text)? {
+            Some(place) if is_schema(place.value) => Ok(Some(place)),
+            _ => Ok(None),
+        }
     }
 }
 
 /// The same path.
-pub(crate) fn path_copy(alloc: Global, path: &[String]) -> Result<Vec<String>, AllocError>
-    ensures { IfOk result (λ copy. map string_bytes copy.items ≡ map string_bytes path.now) }
+pub(crate) fn path_copy(alloc: Global, path: &[Segment]) -> Result<Vec<Segment>, AllocError>
+    ensures { IfOk result (λ copy. path_of copy.items ≡ path_of path.now) }
 {
     let mut copy = Vec::new(alloc);
-    for key in path {
-        copy.push(key.clone()?)?;
+    for segment in path {
+        copy.push(segment.as_step().to_segment(alloc)?)?;
     }
     Ok(copy)
 }
 
-/// A path, and one key more.
+/// A path, and one step more.
 pub(crate) fn path_below(
     alloc: Global,
-    path: &[String],
-    key: &str,
-) -> Result<Vec<String>, AllocError>
-    ensures { IfOk result (λ below. map string_bytes below.items
-        ≡ map string_bytes path.now ++ key.now ∷ []) }
+    path: &[Segment],
+    step: Step<'_>,
+) -> Result<Vec<Segment>, AllocError>
+    ensures { IfOk result (λ below. path_of below.items
+        ≡ path_of path.now ++ step_of step.entry ∷ []) }
 {
     let mut below = path_copy(alloc, path)?;
-    below.push(String::from_str(alloc, key)?)?;
+    below.push(step.to_segment(alloc)?)?;
     Ok(below)
 }
 
 /// A path as a location.
-pub(crate) fn location_of(alloc: Global, path: &[String]) -> Result<Location, AllocError>
-    ensures { IfOk result (λ l. l ≡ location_of (map string_bytes path.now)) }
+pub(crate) fn location_of(alloc: Global, path: &[Segment]) -> Result<Location, AllocError>
+    ensures { IfOk result (λ l. l ≡ location_of (path_of path.now)) }
 {
     let mut location = Location::root(alloc);
-    for key in path {
-        location = location.join(key)?;
+    for segment in path {
+        location = segment.as_step().below(alloc, &location)?;
     }
     Ok(location)
 }
 
-/// Whether a value is an object or a boolean.
+// Whether a value is an object or a boolean.
 fn is_schema(value: &Value) -> bool
     ensures { result ≡ is_schema (view value.now) }
 {
     value.is_object() || value.is_boolean()
 }
 
-// The value at a path of the document.
-fn value_at<'v>(document: &'v Value, path: &[String]) -> Option<&'v Value>
-    ensures { option_map (λ v. view v.now) result
-        ≡ value_at (map string_bytes path.now) (view document.now) }
-{
-    let mut value = document;
-    for key in path {
-        value = value.get(key.as_str())?;
-    }
-    Some(value)
-}
-
-// The path that a reference names: `#` and a JSON pointer.
-fn path_of_reference(alloc: Global, text: &str) -> Result<Option<Vec<String>>, AllocError>
-    ensures { IfOk result (λ o. option_map (λ keys. map string_bytes keys.items) o
-        ≡ path_of_reference text.now) }
+// What a reference names: `#` and a JSON pointer.
+fn place_of_reference<'v>(
+    alloc: Global,
+    document: &'v Value,
+    text: &str,
+) -> Result<Option<Place<'v>>, AllocError>
+    ensures path { IfOk result (λ o. option_map place_path o
+        ≡ path_of_reference (view document.now) text.now) }
+    ensures there { IfOk result (λ o. IfSome o (IsPlace (view document.now))) }
 {
     let Some(pointer) = text.strip_prefix('#') else {
         return Ok(None);
     };
+    match percent_decoded(alloc, pointer)? {
+        Some(pointer) => place_of_pointer(alloc, document, pointer.as_str()),
+        None => Ok(None),
+    }
+}
+
+// What a JSON pointer leads to. Nothing stands before its first `/`.
+fn place_of_pointer<'v>(
+    alloc: Global,
+    document: &'v Value,
+    pointer: &str,
+) -> Result<Option<Place<'v>>, AllocError>
+    ensures path { IfOk result (λ o. option_map place_path o
+        ≡ path_of_pointer (view document.now) pointer.now) }
+    ensures there { IfOk result (λ o. IfSome o (IsPlace (view document.now))) }
+{
     let tokens: Vec<&str> = pointer.split('/').collect(alloc)?;
-    let [first, keys @ ..] = tokens.as_slice() else {
+    let [first, tokens @ ..] = tokens.as_slice() else {
         return Ok(None);
     };
     if !first.is_empty() {
         return Ok(None);
     }
-    Ok(Some(unescaped_all(alloc, keys)?))
+    place_along(alloc, document, tokens)
 }
 
-fn unescaped_all(alloc: Global, tokens: &[&str]) -> Result<Vec<String>, AllocError>
-    ensures { IfOk result (λ keys. map string_bytes keys.items
-        ≡ map unescape (map (λ t. t.now) tokens.now)) }
+// What a fragment stands for, where that is a text (RFC 6901, section 6).
+fn percent_decoded(alloc: Global, fragment: &str) -> Result<Option<String>, AllocError>
+    ensures { IfOk result (λ o. option_map string_bytes o ≡ decoded fragment.now) }
 {
-    let mut keys = Vec::new(alloc);
+    let mut bytes = Vec::new(alloc);
+    percent_decode(fragment.as_bytes()).append_to(&mut bytes)?;
+    Ok(String::from_utf8(bytes).ok())
+}
+
+// What the tokens of a pointer lead to, if anything is there.
+fn place_along<'v>(
+    alloc: Global,
+    document: &'v Value,
+    tokens: &[&str],
+) -> Result<Option<Place<'v>>, AllocError>
+    ensures path { IfOk result (λ o. option_map place_path o
+        ≡ path_along (map (λ t. t.now) tokens.now) (view document.now)) }
+    ensures there { IfOk result (λ o. IfSome o (IsPlace (view document.now))) }
+{
+    let mut path = Vec::new(alloc);
+    let mut value = document;
     for token in tokens {
-        keys.push(unescaped(alloc, token)?)?;
+        let segment = segment_at(alloc, value, token)?;
+        let Some(below) = segment.as_step().child(value) else {
+            return Ok(None);
+        };
+        path.push(segment)?;
+        value = below;
     }
-    Ok(keys)
+    Ok(Some(Place { path, value }))
+}
+
+// What a token says at a value: a place where it is one of an array, and else a key.
+fn segment_at(alloc: Global, value: &Value, token: &str) -> Result<Segment, AllocError>
+    ensures { IfOk result (λ s. segment_of s ≡ segment_at (view value.now) token.now) }
+{
+    if value.is_array() {
+        if let Some(place) = place_named(token) {
+            return Ok(Segment::Place(place));
+        }
+    }
+    Ok(Segment::Key(unescaped(alloc, token)?))
+}
+
+// The place that digits name, with no 0 before another (RFC 6901, section 4).
+fn place_named(token: &str) -> Option<usize>
+    ensures { result ≡ place_named token.now }
+{
+    if begins_oddly(token.as_bytes()) {
+        return None;
+    }
+    token.parse::<usize>().ok()
+}
+
+// With a plus, or with a 0 before more.
+fn begins_oddly(token: &[u8]) -> bool
+    ensures { result ≡ begins_oddly token.now }
+{
+    match token {
+        [first] => *first == b'+',
+        [first, _, ..] => *first == b'+' || *first == b'0',
+        [] => false,
+    }
 }
 
 // The key that a token of a pointer stands for (RFC 6901, section 4).

@@ -2,28 +2,29 @@
 
 ghost use Rattle.std.specs.Prelude.{◌↔◌, ◌≡◌, ◌⊎◌, ◌∷◌, [], IsTrue, OnOk, map, string_bytes};
 ghost use Rattle.neldrafi_schema.specs.Paths.{StandsBefore, location_of};
+ghost use Rattle.neldrafi_schema.specs.machine.Compiled.{path_of};
 
 use crate::places::{location_of, path_copy};
 use crate::refusal::{SchemaError, SchemaErrorKind};
+use crate::segment::Segment;
 use std::alloc::{AllocError, Global};
 use std::cmp::Ordering;
 
 /// What is refused, and the keys that lead to it.
 #[derive(Drop)]
 pub(crate) struct Problem {
-    path: Vec<String>,
+    path: Vec<Segment>,
     kind: SchemaErrorKind,
 }
 
 impl Problem {
-    ghost use Rattle.neldrafi_schema.specs.machine.Places.{path_of};
     ghost use Rattle.neldrafi_schema.specs.machine.Problems.{Notes, problem_of, reason_of};
     ghost use Rattle.neldrafi_schema.specs.Schemas.{out_of_memory};
 
     /// Keeps a problem where none is kept that stands before it in the document, or at its place.
     pub fn note(
         alloc: Global,
-        path: &[String],
+        path: &[Segment],
         kind: SchemaErrorKind,
         first: &mut Option<Problem>,
     ) -> Result<(), AllocError>
@@ -58,9 +59,9 @@ impl Problem {
 }
 
 // Whether what is at a path stands in a document before what is at another.
-fn stands_before(path: &[String], other: &[String]) -> bool
+fn stands_before(path: &[Segment], other: &[Segment]) -> bool
     ensures { IsTrue result
-        ↔ StandsBefore (map string_bytes path.now) (map string_bytes other.now) }
+        ↔ StandsBefore (path_of path.now) (path_of other.now) }
 {
     path.cmp(&other) == Ordering::Less
 }

@@ -1,44 +1,46 @@
-//! What the schemas of a document say, by draft 2020-12.
+//! What the schemas of a document say.
 
-ghost use Rattle.std.specs.Prelude.{◌≡◌, ◌<◌, ◌++◌, ◌∷◌, ℕ, List, IfOk, OnOk, Some, [], length, map, option_map, string_bytes};
+ghost use Rattle.std.specs.Prelude.{◌≡◌, ◌<◌, ◌++◌, ◌∷◌, ℕ, List, IfOk, OnOk, Some, [], length, map, option_map, unwrap_or};
 ghost use Rattle.std.specs.List.{AllByRecursion};
-ghost use Rattle.serde_json.specs.Data.{object as object_of};
-ghost use Rattle.serde_json.specs.Find.{as_object, as_str, get_member};
+ghost use Rattle.serde_json.specs.Data.{Data, member as member_of, no_members, number, object as object_of, unsigned};
+ghost use Rattle.serde_json.specs.Find.{as_object};
 ghost use Rattle.serde_json.specs.View.{members_view, view};
 ghost use Rattle.strkw_keywords.specs.Handed.{lists_of};
+ghost use Rattle.strkw_keywords.specs.Keywords.{keyword_name};
 ghost use Rattle.strkw_keywords.specs.Meanings.{Lists};
-ghost use Rattle.neldrafi_schema.specs.Paths.{Path, location_of as location_text, value_at};
-ghost use Rattle.neldrafi_schema.specs.machine.Places.{Extends, Grown, IsTable, path_of, paths_of};
-ghost use Rattle.neldrafi_schema.specs.Reading.{BodySays, KnownSays, PropertiesSay, ReferenceSays, SchemasAre, TextSays, dialect_keywords, is_dialect, known_named, names_in, of_kind, type_in, types_in};
-ghost use Rattle.neldrafi_schema.specs.machine.Compiled.{properties_of};
-ghost use Rattle.neldrafi_schema.specs.machine.Said.{Always, IsSaidReady, Reads, said_keywords};
-ghost use Rattle.neldrafi_schema.specs.Schemas.{required, types};
+ghost use Rattle.strkw_keywords.specs.Values.{AreValuesOf};
+ghost use Rattle.neldrafi_schema.specs.Drafts.{known_named};
+ghost use Rattle.neldrafi_schema.specs.Paths.{Path, key, location_of as location_text, value_at};
+ghost use Rattle.neldrafi_schema.specs.Reading.{AreNumbered, BodySays, KnownSays, PatternPropertiesSay, PatternsAre, SenseSays, TextSays, handed};
 ghost use Rattle.neldrafi_schema.specs.Settings.{config_settings, keyword_settings};
+ghost use Rattle.neldrafi_schema.specs.machine.Compiled.{branches_of, path_of};
+ghost use Rattle.neldrafi_schema.specs.machine.Leads.{AreLeads, IsThere, boolean_of};
+ghost use Rattle.neldrafi_schema.specs.machine.Places.{Extends, Grown, IsPlace, IsTable, StaysAt, paths_of, place_path};
+ghost use Rattle.neldrafi_schema.specs.machine.Said.{Always, ArePatternsReady, IsReadReady, IsSaidReady, IsSenseReady, Reads, is_out_of_memory, lead_of, patterns_of, read_keywords, said_keywords, sense_of};
 
 use crate::config::Config;
-use crate::json_type::JsonType;
-use crate::node::{Body, Keyword, Node, Property};
-use crate::places::{Places, location_of, path_below};
+use crate::known::{Known, is_draft_4};
+use crate::node::{Body, Branch, Keyword, Node, Rule, Ruled};
+use crate::numbers::size_in;
+use crate::places::{Place, Places, location_of, path_below};
 use crate::problem::Problem;
 use crate::refusal::SchemaErrorKind;
+use crate::segment::{Segment, Step};
+use crate::senses::{Lead, Member, Sense, member_leads, sense_of};
 use serde_json::{Map, Value};
 use std::alloc::{AllocError, Global};
 use strkw_keywords::laws::compiled_is_in_use;
-use strkw_keywords::{Keyword as TextKeyword, compile_entry};
-use strkw_pattern::{EngineBuilder, RegexEngine};
-use strkw_report::CompileErrorKind;
+use strkw_keywords::{Keyword as TextKeyword, Validator, Values, compile_among};
+use strkw_pattern::EngineBuilder;
+use strkw_report::{CompileError, CompileErrorKind, Draft};
 
-/// The keywords that are known, by name.
+/// What documents are read under.
 #[derive(Clone, Copy)]
-pub(crate) enum Known {
-    Dialect,
-    Reference,
-    Not,
-    Properties,
-    Required,
-    Types,
-    Text(TextKeyword),
-    Unknown,
+pub(crate) struct Reader<'r, 'c, 'v, B> {
+    pub alloc: Global,
+    pub config: &'r Config<'c, B>,
+    pub draft: Draft,
+    pub document: &'v Value,
 }
 
 // What a member of a schema object comes to.
@@ -47,364 +49,413 @@ pub(crate) enum Said<E> {
     Nothing,
     Keyword(Keyword<E>),
     Malformed(SchemaErrorKind),
+    // the value of this member of the value
+    MalformedAt(String, SchemaErrorKind),
 }
 
-impl Known {
-    // The keyword of a name.
-    pub fn named(name: &str) -> Known
-        ensures { result ≡ known_named name.now }
+/// A pattern of `patternProperties` that is refused.
+#[derive(Drop)]
+struct RefusedPattern {
+    pattern: String,
+    refusal: CompileError,
+}
+
+// What a string keyword comes to.
+type ReadText<E> = Option<Result<Validator<E>, CompileError>>;
+
+impl<'v, B: EngineBuilder> Reader<'_, '_, 'v, B> {
+    /// The schema at a place. What has no meaning is noted, if it is the first.
+    pub fn read_schema(
+        &self,
+        path: &[Segment],
+        value: &'v Value,
+        places: &mut Places<'v>,
+        first: &mut Option<Problem>,
+    ) -> Result<Node<B::Engine>, AllocError>
+        requires table { IsTable places.old }
+        requires there { value_at (path_of path.now) (view places.old.document.now)
+            ≡ Some (view value.now) }
+        ensures read { let s = record (config_settings B.takes B.outcome admits accepts is_encoding
+            decoding self.now.config.now) { draft = self.now.draft } in
+            IfOk result (λ node. Reads B.Engine.outcome s.lists (λ numbered body.
+            BodySays numbered s (view places.old.document.now) (path_of path.now) (view value.now)
+            body) (path_of path.now) (paths_of places.new.places.items) first.old first.new
+            node.body) }
+        ensures location { IfOk result (λ node. node.location ≡ location_text (path_of path.now)) }
+        ensures grown { OnOk result (Grown places.old places.new) }
     {
-        if name == "$schema" {
-            Known::Dialect
-        } else if name == "$ref" {
-            Known::Reference
-        } else if name == "not" {
-            Known::Not
-        } else if name == "properties" {
-            Known::Properties
-        } else if name == "required" {
-            Known::Required
-        } else if name == "type" {
-            Known::Types
-        } else if name == "format" {
-            Known::Text(TextKeyword::Format)
-        } else if name == "minLength" {
-            Known::Text(TextKeyword::MinLength)
-        } else if name == "maxLength" {
-            Known::Text(TextKeyword::MaxLength)
-        } else if name == "pattern" {
-            Known::Text(TextKeyword::Pattern)
-        } else {
-            Known::Unknown
+        let body = self.read_body(path, value, places, first)?;
+        let location = location_of(self.alloc, path)?;
+        Ok(Node { location, body })
+    }
+
+    // What it says.
+    fn read_body(
+        &self,
+        path: &[Segment],
+        value: &'v Value,
+        places: &mut Places<'v>,
+        first: &mut Option<Problem>,
+    ) -> Result<Body<B::Engine>, AllocError>
+        requires table { IsTable places.old }
+        requires there { value_at (path_of path.now) (view places.old.document.now)
+            ≡ Some (view value.now) }
+        ensures read { let s = record (config_settings B.takes B.outcome admits accepts is_encoding
+            decoding self.now.config.now) { draft = self.now.draft } in
+            IfOk result (λ body. Reads B.Engine.outcome s.lists (λ numbered said.
+            BodySays numbered s (view places.old.document.now) (path_of path.now) (view value.now)
+            said) (path_of path.now) (paths_of places.new.places.items) first.old first.new body) }
+        ensures grown { OnOk result (Grown places.old places.new) }
+    {
+        match value.as_object() {
+            Some(object) => self.read_members(path, object, places, first),
+            None => match boolean_of(self.draft, value) {
+                Some(true) => Ok(Body::Always),
+                Some(false) => Ok(Body::Never),
+                None => {
+                    Problem::note(self.alloc, path, SchemaErrorKind::WrongType, first)?;
+                    Ok(Body::Always)
+                }
+            },
         }
     }
-}
 
-/// The schema at a place. What has no meaning is noted, if it is the first.
-pub(crate) fn read_schema<'v, B: EngineBuilder>(
-    alloc: Global,
-    config: &Config<'_, B>,
-    path: &[String],
-    value: &'v Value,
-    places: &mut Places<'v>,
-    first: &mut Option<Problem>,
-) -> Result<Node<B::Engine>, AllocError>
-    requires table { IsTable places.old }
-    requires there { value_at (path_of path.now) (view places.old.document.now)
-        ≡ Some (view value.now) }
-    ensures read { let s = config_settings B.takes B.outcome admits accepts is_encoding decoding
-        config.now in
-        IfOk result (λ node. Reads B.Engine.outcome s.lists (λ numbered body. BodySays numbered s
-        (view places.old.document.now) (path_of path.now) (view value.now) body) (path_of path.now)
-        (paths_of places.new.places.items) first.old first.new node.body) }
-    ensures location { IfOk result (λ node. node.location ≡ location_text (path_of path.now)) }
-    ensures grown { OnOk result (Grown places.old places.new) }
-{
-    let body = match (value.as_bool(), value.as_object()) {
-        (Some(true), _) => Body::Always,
-        (Some(false), _) => Body::Never,
-        (None, Some(object)) => read_members(alloc, config, path, object, places, first)?,
-        (None, None) => {
-            Problem::note(alloc, path, SchemaErrorKind::WrongType, first)?;
-            Body::Always
-        }
-    };
-    let location = location_of(alloc, path)?;
-    Ok(Node { location, body })
-}
-
-// The keywords of a schema object, in the order of its members.
-fn read_members<'v, B: EngineBuilder>(
-    alloc: Global,
-    config: &Config<'_, B>,
-    path: &[String],
-    object: &'v Map<String, Value>,
-    places: &mut Places<'v>,
-    first: &mut Option<Problem>,
-) -> Result<Body<B::Engine>, AllocError>
-    requires table { IsTable places.old }
-    requires there { value_at (path_of path.now) (view places.old.document.now)
-        ≡ Some (object_of (members_view object.now.entries)) }
-    ensures read { let s = config_settings B.takes B.outcome admits accepts is_encoding decoding
-        config.now in
-        let ms = members_view object.now.entries in
-        IfOk result (λ body. Reads B.Engine.outcome s.lists (λ numbered body. BodySays numbered s
-        (view places.old.document.now) (path_of path.now) (object_of ms) body) (path_of path.now)
-        (paths_of places.new.places.items) first.old first.new body) }
-    ensures grown { OnOk result (Grown places.old places.new) }
-{
-    let mut keywords = Vec::new(alloc);
-    for (name, value) in object.iter() {
-        let at = path_below(alloc, path, name)?;
-        let member = Member {
-            path,
-            object,
-            name,
-            at: &at,
-            value,
-        };
-        match read_member(alloc, config, &member, places)? {
-            Said::Nothing => {}
-            Said::Keyword(keyword) => keywords.push(keyword)?,
-            Said::Malformed(kind) => Problem::note(alloc, &at, kind, first)?,
-        }
-    }
-    Ok(Body::Keywords(keywords))
-}
-
-// A member of the schema object at a path, and the path to its value.
-#[derive(Clone, Copy)]
-struct Member<'r, 'v> {
-    path: &'r [String],
-    object: &'v Map<String, Value>,
-    name: &'r str,
-    at: &'r [String],
-    value: &'v Value,
-}
-
-// What one member comes to.
-fn read_member<'v, B: EngineBuilder>(
-    alloc: Global,
-    config: &Config<'_, B>,
-    member: &Member<'_, 'v>,
-    places: &mut Places<'v>,
-) -> Result<Said<B::Engine>, AllocError>
-    requires table { IsTable places.old }
-    requires at { path_of member.now.at.now ≡ path_of member.now.path.now
-        ++ member.now.name.now ∷ [] }
-    requires there { value_at (path_of member.now.at.now) (view places.old.document.now)
-        ≡ Some (view member.now.value.now) }
-    ensures says { let s = config_settings B.takes B.outcome admits accepts is_encoding decoding
-        config.now in
-        IfOk result (λ said. Always (paths_of places.new.places.items) (λ numbered.
-        KnownSays numbered s (view places.old.document.now) (path_of member.now.path.now)
-        (members_view member.now.object.now.entries) member.now.name.now
-        (known_named member.now.name.now) (view member.now.value.now)
-        (said_keywords B.Engine.outcome member.now.name.now said))) }
-    ensures ready { IfOk result (IsSaidReady B.Engine.outcome
-        (lists_of admits accepts is_encoding decoding config.now.checks)
-        (paths_of places.new.places.items)) }
-    ensures grown { OnOk result (Grown places.old places.new) }
-{
-    let value = member.value;
-    match Known::named(member.name) {
-        Known::Dialect => Ok(read_dialect(value)),
-        Known::Reference => read_reference(alloc, value, places),
-        Known::Not => {
-            let number = places.number_at(alloc, member.at, value)?;
-            Ok(Said::Keyword(Keyword::Not(number, value.clone()?)))
-        }
-        Known::Properties => read_properties(alloc, member.at, value, places),
-        Known::Required => read_required(alloc, value),
-        Known::Types => read_types(alloc, value),
-        Known::Text(keyword) => read_text(alloc, config, member.path, member.object, keyword),
-        Known::Unknown => Ok(Said::Nothing),
-    }
-}
-
-// The dialect that is known is that of draft 2020-12.
-fn read_dialect<E: RegexEngine>(value: &Value) -> Said<E>
-    ensures says { (name : List ℕ) → said_keywords E.outcome name result
-        ≡ dialect_keywords name (as_str (view value.now)) }
-    ensures ready { (lists : Lists) (paths : List Path)
-        → IsSaidReady E.outcome lists paths result }
-{
-    match value.as_str() {
-        None => Said::Malformed(SchemaErrorKind::WrongType),
-        Some(text) if is_dialect(text) => Said::Nothing,
-        Some(_) => Said::Malformed(SchemaErrorKind::UnknownDialect),
-    }
-}
-
-fn is_dialect(text: &str) -> bool
-    ensures { result ≡ is_dialect text.now }
-{
-    text == "https://json-schema.org/draft/2020-12/schema"
-        || text == "https://json-schema.org/draft/2020-12/schema#"
-}
-
-fn read_reference<'v, E: RegexEngine>(
-    alloc: Global,
-    value: &'v Value,
-    places: &mut Places<'v>,
-) -> Result<Said<E>, AllocError>
-    requires { IsTable places.old }
-    ensures says { (name : List ℕ) → IfOk result (λ said.
-        Always (paths_of places.new.places.items) (λ numbered.
-        ReferenceSays numbered (view places.old.document.now) name (as_str (view value.now))
-        (said_keywords E.outcome name said))) }
-    ensures ready { (lists : Lists) → IfOk result (IsSaidReady E.outcome lists
-        (paths_of places.new.places.items)) }
-    ensures grown { OnOk result (Grown places.old places.new) }
-{
-    let Some(text) = value.as_str() else {
-        return Ok(Said::Malformed(SchemaErrorKind::WrongType));
-    };
-    Ok(match places.number_of_target(alloc, text)? {
-        Some(number) => Said::Keyword(Keyword::Ref(number)),
-        None => Said::Malformed(SchemaErrorKind::UnresolvedReference),
-    })
-}
-
-fn read_properties<'v, E: RegexEngine>(
-    alloc: Global,
-    at: &[String],
-    value: &'v Value,
-    places: &mut Places<'v>,
-) -> Result<Said<E>, AllocError>
-    requires table { IsTable places.old }
-    requires there { value_at (path_of at.now) (view places.old.document.now)
-        ≡ Some (view value.now) }
-    ensures says { (name : List ℕ) → IfOk result (λ said.
-        Always (paths_of places.new.places.items) (λ numbered.
-        PropertiesSay numbered (path_of at.now) name (as_object (view value.now))
-        (said_keywords E.outcome name said))) }
-    ensures ready { (lists : Lists) → IfOk result (IsSaidReady E.outcome lists
-        (paths_of places.new.places.items)) }
-    ensures grown { OnOk result (Grown places.old places.new) }
-{
-    match value.as_object() {
-        None => Ok(Said::Malformed(SchemaErrorKind::WrongType)),
-        Some(members) => {
-            let properties = properties_in(alloc, at, members, places)?;
-            Ok(Said::Keyword(Keyword::Properties(properties)))
-        }
-    }
-}
-
-// The members of `properties`, which stands at a path.
-fn properties_in<'v>(
-    alloc: Global,
-    at: &[String],
-    members: &'v Map<String, Value>,
-    places: &mut Places<'v>,
-) -> Result<Vec<Property>, AllocError>
-    requires table { IsTable places.old }
-    requires there { value_at (path_of at.now) (view places.old.document.now)
-        ≡ Some (object_of (members_view members.now.entries)) }
-    ensures are { IfOk result (λ properties. Always (paths_of places.new.places.items)
-        (λ numbered. SchemasAre numbered (path_of at.now) (members_view members.now.entries)
-        (properties_of properties.items))) }
-    ensures inside { IfOk result (λ properties. (all : List Path)
-        → Extends (paths_of places.new.places.items) all
-        → AllByRecursion (λ p. p.schema < length all) properties.items) }
-    ensures grown { OnOk result (Grown places.old places.new) }
-{
-    let mut properties = Vec::new(alloc);
-    for (name, value) in members.iter() {
-        let path = path_below(alloc, at, name)?;
-        let property = Property {
-            name: name.clone()?,
-            schema: places.number_at(alloc, &path, value)?,
-        };
-        properties.push(property)?;
-    }
-    Ok(properties)
-}
-
-// The names of `required`.
-fn read_required<E: RegexEngine>(alloc: Global, value: &Value) -> Result<Said<E>, AllocError>
-    ensures says { (name : List ℕ) → IfOk result (λ said. said_keywords E.outcome name said
-        ≡ of_kind name required (names_in (view value.now))) }
-    ensures ready { (lists : Lists) (paths : List Path)
-        → IfOk result (IsSaidReady E.outcome lists paths) }
-{
-    match names_in(alloc, value)? {
-        Some(names) => Ok(Said::Keyword(Keyword::Required(names))),
-        None => Ok(Said::Malformed(SchemaErrorKind::WrongType)),
-    }
-}
-
-// The types of `type`.
-fn read_types<E: RegexEngine>(alloc: Global, value: &Value) -> Result<Said<E>, AllocError>
-    ensures says { (name : List ℕ) → IfOk result (λ said. said_keywords E.outcome name said
-        ≡ of_kind name types (types_in (view value.now))) }
-    ensures ready { (lists : Lists) (paths : List Path)
-        → IfOk result (IsSaidReady E.outcome lists paths) }
-{
-    match types_in(alloc, value)? {
-        Some(types) => Ok(Said::Keyword(Keyword::Types(types))),
-        None => Ok(Said::Malformed(SchemaErrorKind::WrongType)),
-    }
-}
-
-// The strings of an array.
-fn names_in(alloc: Global, value: &Value) -> Result<Option<Vec<String>>, AllocError>
-    ensures { IfOk result (λ o. option_map (λ names. map string_bytes names.items) o
-        ≡ names_in (view value.now)) }
-{
-    let Some(items) = value.as_array() else {
-        return Ok(None);
-    };
-    let mut names = Vec::new(alloc);
-    for item in items {
-        let Some(name) = item.as_str() else {
-            return Ok(None);
-        };
-        names.push(String::from_str(alloc, name)?)?;
-    }
-    Ok(Some(names))
-}
-
-// The types of a name, or of an array of names that has some.
-fn types_in(alloc: Global, value: &Value) -> Result<Option<Vec<JsonType>>, AllocError>
-    ensures { IfOk result (λ o. option_map (λ types. types.items) o ≡ types_in (view value.now)) }
-{
-    let mut types = Vec::new(alloc);
-    match value {
-        Value::String(name) => {
-            let Some(named) = JsonType::by_name(name) else {
-                return Ok(None);
+    // The keywords of a schema object, in the order of its members.
+    fn read_members(
+        &self,
+        path: &[Segment],
+        object: &'v Map<String, Value>,
+        places: &mut Places<'v>,
+        first: &mut Option<Problem>,
+    ) -> Result<Body<B::Engine>, AllocError>
+        requires table { IsTable places.old }
+        requires there { value_at (path_of path.now) (view places.old.document.now)
+            ≡ Some (object_of (members_view object.now.entries)) }
+        ensures read { let s = record (config_settings B.takes B.outcome admits accepts is_encoding
+            decoding self.now.config.now) { draft = self.now.draft } in
+            let ms = members_view object.now.entries in
+            IfOk result (λ body. Reads B.Engine.outcome s.lists (λ numbered body. BodySays numbered
+            s (view places.old.document.now) (path_of path.now) (object_of ms) body)
+            (path_of path.now) (paths_of places.new.places.items) first.old first.new body) }
+        ensures grown { OnOk result (Grown places.old places.new) }
+    {
+        let mut keywords = Vec::new(self.alloc);
+        for (name, value) in object.iter() {
+            let name = name.as_str();
+            let at = path_below(self.alloc, path, Step::Key(name))?;
+            let member = Member {
+                path,
+                object,
+                name,
+                at: &at,
+                value,
             };
-            types.push(named)?;
-        }
-        Value::Array(items) => {
-            for item in items {
-                let Some(named) = type_in(item) else {
-                    return Ok(None);
-                };
-                types.push(named)?;
-            }
-            if types.is_empty() {
-                return Ok(None);
+            match self.read_member(&member, places)? {
+                Said::Nothing => {}
+                Said::Keyword(keyword) => keywords.push(keyword)?,
+                Said::Malformed(kind) => Problem::note(self.alloc, &at, kind, first)?,
+                Said::MalformedAt(name, kind) => {
+                    let below = path_below(self.alloc, &at, Step::Key(name.as_str()))?;
+                    Problem::note(self.alloc, &below, kind, first)?;
+                }
             }
         }
-        _ => return Ok(None),
+        Ok(Body::Keywords(keywords))
     }
-    Ok(Some(types))
+
+    // What one member comes to.
+    fn read_member(
+        &self,
+        member: &Member<'_, 'v>,
+        places: &mut Places<'v>,
+    ) -> Result<Said<B::Engine>, AllocError>
+        requires table { IsTable places.old }
+        requires at { path_of member.now.at.now
+            ≡ path_of member.now.path.now ++ key member.now.name.now ∷ [] }
+        requires there { IsThere (view places.old.document.now) member.now }
+        ensures says { let s = record (config_settings B.takes B.outcome admits accepts is_encoding
+            decoding self.now.config.now) { draft = self.now.draft } in
+            let ms = members_view member.now.object.now.entries in
+            IfOk result (λ said. Always (paths_of places.new.places.items) (λ numbered.
+            KnownSays numbered s (view places.old.document.now) (path_of member.now.path.now) ms
+            member.now.name.now (known_named s.draft ms member.now.name.now)
+            (view member.now.value.now)
+            (said_keywords B.Engine.outcome member.now.name.now said))) }
+        ensures ready { IfOk result (IsSaidReady B.Engine.outcome
+            (lists_of admits accepts is_encoding decoding self.now.config.now.checks)
+            (paths_of places.new.places.items)) }
+        ensures grown { OnOk result (Grown places.old places.new) }
+    {
+        match Known::among(self.draft, member.object, member.name) {
+            Known::Text(keyword) => self.read_text(member, keyword),
+            Known::PatternProperties => self.read_patterns(member, places),
+            known => {
+                let sense = sense_of(self.alloc, self.draft, places, member, known)?;
+                self.numbered(member.name, sense, places)
+            }
+        }
+    }
+
+    // A sense, with its schemas by number.
+    fn numbered(
+        &self,
+        name: &str,
+        sense: Sense<'v, B::Engine>,
+        places: &mut Places<'v>,
+    ) -> Result<Said<B::Engine>, AllocError>
+        requires table { IsTable places.old }
+        requires leads { AreLeads (view places.old.document.now) sense }
+        ensures says { IfOk result (λ said. Always (paths_of places.new.places.items) (λ numbered.
+            SenseSays numbered name.now (sense_of B.Engine.outcome sense.entry)
+            (said_keywords B.Engine.outcome name.now said))) }
+        ensures ready { (lists : Lists) → IsSenseReady B.Engine.outcome lists sense.entry
+            → IfOk result (IsSaidReady B.Engine.outcome lists (paths_of places.new.places.items)) }
+        ensures grown { OnOk result (Grown places.old places.new) }
+    {
+        match sense {
+            Sense::Nothing => Ok(Said::Nothing),
+            Sense::Refused(kind) => Ok(Said::Malformed(kind)),
+            Sense::Says(rule, leads) => {
+                let branches = branches_of(self.alloc, leads, places)?;
+                Ok(Said::Keyword(Keyword::Rule(Ruled {
+                    name: String::from_str(self.alloc, name)?,
+                    rule,
+                    branches,
+                })))
+            }
+        }
+    }
+
+    // `patternProperties`: the first pattern that is refused, or all.
+    fn read_patterns(
+        &self,
+        member: &Member<'_, 'v>,
+        places: &mut Places<'v>,
+    ) -> Result<Said<B::Engine>, AllocError>
+        requires table { IsTable places.old }
+        requires at { path_of member.now.at.now
+            ≡ path_of member.now.path.now ++ key member.now.name.now ∷ [] }
+        requires there { IsThere (view places.old.document.now) member.now }
+        ensures says { let s = record (config_settings B.takes B.outcome admits accepts is_encoding
+            decoding self.now.config.now) { draft = self.now.draft } in
+            IfOk result (λ said. Always (paths_of places.new.places.items) (λ numbered.
+            PatternPropertiesSay numbered s (path_of member.now.path.now) member.now.name.now
+            (as_object (view member.now.value.now))
+            (said_keywords B.Engine.outcome member.now.name.now said))) }
+        ensures ready { IfOk result (IsSaidReady B.Engine.outcome
+            (lists_of admits accepts is_encoding decoding self.now.config.now.checks)
+            (paths_of places.new.places.items)) }
+        ensures grown { OnOk result (Grown places.old places.new) }
+    {
+        let Some(members) = member.value.as_object() else {
+            return Ok(Said::Malformed(SchemaErrorKind::WrongType));
+        };
+        match self.patterns_of(member.path, members)? {
+            Ok(patterns) => {
+                let leads = member_leads(self.alloc, member.at, members)?;
+                let sense = Sense::Says(Rule::Matching(patterns), leads);
+                self.numbered(member.name, sense, places)
+            }
+            Err(RefusedPattern { pattern, refusal }) => {
+                Ok(Said::MalformedAt(pattern, SchemaErrorKind::Text(refusal)))
+            }
+        }
+    }
+
+    // The patterns of members of the schema object at a path, each compiled alone.
+    fn patterns_of(
+        &self,
+        path: &[Segment],
+        members: &Map<String, Value>,
+    ) -> Result<Result<Vec<Validator<B::Engine>>, RefusedPattern>, AllocError>
+        ensures are { let s = record (config_settings B.takes B.outcome admits accepts is_encoding
+            decoding self.now.config.now) { draft = self.now.draft } in
+            (name : List ℕ) → IfOk result (λ r. PatternsAre s (path_of path.now) name
+            (members_view members.now.entries) (patterns_of B.Engine.outcome name r)) }
+        ensures ready { IfOk result (ArePatternsReady B.Engine.outcome
+            (lists_of admits accepts is_encoding decoding self.now.config.now.checks)) }
+    {
+        let mut patterns = Vec::new(self.alloc);
+        for (name, _) in members.iter() {
+            let value = Value::try_from_str(self.alloc, name.as_str())?;
+            match self.compiled(path, &value, TextKeyword::Pattern)? {
+                None => {}
+                Some(Ok(validator)) => patterns.push(validator)?,
+                Some(Err(refusal)) => {
+                    let pattern = name.clone()?;
+                    return Ok(Err(RefusedPattern { pattern, refusal }));
+                }
+            }
+        }
+        Ok(Ok(patterns))
+    }
+
+    // A string keyword, as it is compiled alone.
+    fn read_text(
+        &self,
+        member: &Member<'_, 'v>,
+        keyword: TextKeyword,
+    ) -> Result<Said<B::Engine>, AllocError>
+        ensures says { let s = record (config_settings B.takes B.outcome admits accepts is_encoding
+            decoding self.now.config.now) { draft = self.now.draft } in
+            IfOk result (λ said. TextSays
+            (keyword_settings s (path_of member.now.path.now) keyword)
+            (key member.now.name.now ∷ []) keyword (view member.now.value.now)
+            (said_keywords B.Engine.outcome member.now.name.now said)) }
+        ensures ready { (paths : List Path) → IfOk result (IsSaidReady B.Engine.outcome
+            (lists_of admits accepts is_encoding decoding self.now.config.now.checks) paths) }
+    {
+        match self.compiled_member(member, keyword)? {
+            None => Ok(Said::Nothing),
+            Some(Ok(validator)) => Ok(Said::Keyword(Keyword::Text(validator))),
+            Some(Err(refusal)) => Ok(Said::Malformed(SchemaErrorKind::Text(refusal))),
+        }
+    }
+
+    // The same, as `strkw_keywords` has it.
+    fn compiled_member(
+        &self,
+        member: &Member<'_, 'v>,
+        keyword: TextKeyword,
+    ) -> Result<ReadText<B::Engine>, AllocError>
+        ensures says { let s = record (config_settings B.takes B.outcome admits accepts is_encoding
+            decoding self.now.config.now) { draft = self.now.draft } in
+            (at : Path) → IfOk result (λ found. TextSays
+            (keyword_settings s (path_of member.now.path.now) keyword) at keyword
+            (view member.now.value.now) (read_keywords B.Engine.outcome at found)) }
+        ensures ready { IfOk result (IsReadReady B.Engine.outcome
+            (lists_of admits accepts is_encoding decoding self.now.config.now.checks) keyword) }
+    {
+        match length_in(keyword, member.value) {
+            Some(limit) => self.compiled(member.path, &Value::from(limit), keyword),
+            None => self.compiled(member.path, member.value, keyword),
+        }
+    }
+
+    // The keyword of the schema object at a path, which has this value.
+    fn compiled(
+        &self,
+        path: &[Segment],
+        value: &Value,
+        keyword: TextKeyword,
+    ) -> Result<ReadText<B::Engine>, AllocError>
+        ensures says { let s = record (config_settings B.takes B.outcome admits accepts is_encoding
+            decoding self.now.config.now) { draft = self.now.draft } in
+            (at : Path) (d : Data) → view value.now ≡ handed keyword d
+            → IfOk result (λ found. TextSays (keyword_settings s (path_of path.now) keyword) at
+            keyword d (read_keywords B.Engine.outcome at found)) }
+        ensures ready { IfOk result (IsReadReady B.Engine.outcome
+            (lists_of admits accepts is_encoding decoding self.now.config.now.checks) keyword) }
+    {
+        compiled_is_in_use();
+        let location = location_of(self.alloc, path)?;
+        let ctx = self.config.context(self.draft, &location, keyword)?;
+        let found = compile_among(self.alloc, &ctx, &values_of(value, keyword), keyword);
+        if is_out_of_memory(&found) {
+            return Err(AllocError);
+        }
+        Ok(found)
+    }
 }
 
-fn type_in(value: &Value) -> Option<JsonType>
-    ensures { result ≡ type_in (view value.now) }
+fn is_out_of_memory<E>(found: &ReadText<E>) -> bool
+    ensures { result ≡ is_out_of_memory found.now }
 {
-    JsonType::by_name(value.as_str()?)
+    match found {
+        Some(Err(refusal)) => matches!(refusal.kind, CompileErrorKind::Memory),
+        _ => false,
+    }
 }
 
-// A string keyword, as it is compiled alone.
-fn read_text<B: EngineBuilder>(
+// The size that `minLength` and `maxLength` say, which may be written as a float.
+fn length_in(keyword: TextKeyword, value: &Value) -> Option<u64>
+    ensures { handed keyword (view value.now) ≡ unwrap_or (option_map
+        (λ n. number (unsigned n)) result) (view value.now) }
+{
+    match keyword {
+        TextKeyword::MinLength | TextKeyword::MaxLength => size_in(value),
+        _ => None,
+    }
+}
+
+// A boolean that is a schema.
+fn boolean_of(draft: Draft, value: &Value) -> Option<bool>
+    ensures { result ≡ boolean_of draft (view value.now) }
+{
+    if is_draft_4(draft) {
+        None
+    } else {
+        value.as_bool()
+    }
+}
+
+// The values of an object that has this keyword alone.
+fn values_of(value: &Value, keyword: TextKeyword) -> Values<'_>
+    ensures { AreValuesOf (member_of (keyword_name keyword) (view value.now) no_members) result }
+{
+    let mut values = Values {
+        content_media_type: None,
+        content_encoding: None,
+        content_schema: None,
+        format: None,
+        min_length: None,
+        max_length: None,
+        pattern: None,
+    };
+    match keyword {
+        TextKeyword::ContentMediaType => values.content_media_type = Some(value),
+        TextKeyword::ContentEncoding => values.content_encoding = Some(value),
+        TextKeyword::ContentSchema => values.content_schema = Some(value),
+        TextKeyword::Format => values.format = Some(value),
+        TextKeyword::MinLength => values.min_length = Some(value),
+        TextKeyword::MaxLength => values.max_length = Some(value),
+        TextKeyword::Pattern => values.pattern = Some(value),
+    }
+    values
+}
+
+// A schema that is no part of the keyword's value may have been numbered before.
+fn number_of<'v>(
+    place: Place<'v>,
+    is_part: bool,
+    places: &mut Places<'v>,
+) -> Result<usize, AllocError>
+    requires table { IsTable places.old }
+    requires there { IsPlace (view places.old.document.now) place }
+    ensures number { IfOk result (λ n.
+        StaysAt (paths_of places.new.places.items) n (place_path place.entry)) }
+    ensures grown { OnOk result (Grown places.old places.new) }
+{
+    if is_part {
+        places.number(place)
+    } else {
+        places.number_known(place)
+    }
+}
+
+// The schemas of leads, by number.
+fn branches_of<'v>(
     alloc: Global,
-    config: &Config<'_, B>,
-    path: &[String],
-    object: &Map<String, Value>,
-    keyword: TextKeyword,
-) -> Result<Said<B::Engine>, AllocError>
-    ensures says { let s = config_settings B.takes B.outcome admits accepts is_encoding decoding
-        config.now in
-        (name : List ℕ) → IfOk result (λ said. TextSays
-        (keyword_settings s (path_of path.now) keyword) (members_view object.now.entries) name
-        keyword (said_keywords B.Engine.outcome name said)) }
-    ensures ready { (paths : List Path) → IfOk result (IsSaidReady B.Engine.outcome
-        (lists_of admits accepts is_encoding decoding config.now.checks) paths) }
+    leads: Vec<Lead<'v>>,
+    places: &mut Places<'v>,
+) -> Result<Vec<Branch>, AllocError>
+    requires table { IsTable places.old }
+    requires there { AllByRecursion (λ l. IsPlace (view places.old.document.now) l.place)
+        leads.items }
+    ensures numbered { IfOk result (λ bs. Always (paths_of places.new.places.items) (λ numbered.
+        AreNumbered numbered (map lead_of leads.entry.items) (branches_of bs.items))) }
+    ensures inside { IfOk result (λ bs. (all : List Path)
+        → Extends (paths_of places.new.places.items) all
+        → AllByRecursion (λ b. b.schema < length all) bs.items) }
+    ensures grown { OnOk result (Grown places.old places.new) }
 {
-    compiled_is_in_use();
-    let location = location_of(alloc, path)?;
-    let ctx = config.context(&location, keyword)?;
-    match compile_entry(alloc, &ctx, object, keyword) {
-        None => Ok(Said::Nothing),
-        Some(Ok(validator)) => Ok(Said::Keyword(Keyword::Text(validator))),
-        Some(Err(refusal)) => match refusal.kind {
-            CompileErrorKind::Memory => Err(AllocError),
-            kind => Ok(Said::Malformed(SchemaErrorKind::Text(kind))),
-        },
+    let mut branches = Vec::new(alloc);
+    for lead in leads {
+        let schema = number_of(lead.place, lead.key.is_some(), places)?;
+        branches.push(Branch {
+            key: lead.key,
+            schema,
+        })?;
     }
+    Ok(branches)
 }

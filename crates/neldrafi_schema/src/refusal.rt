@@ -1,9 +1,11 @@
 //! Why a schema document is refused, and where.
 
-ghost use Rattle.std.specs.Prelude.{◌≡◌};
+ghost use Rattle.std.specs.Prelude.{◌≡◌, ◌++◌, IfOk, codes, false, string_bytes};
+ghost use Rattle.neldrafi_schema.specs.Explanations.{explanation, prints_float, refusal_text};
+ghost use Rattle.neldrafi_schema.specs.machine.Problems.{reason_of};
 
-use std::alloc::Global;
-use strkw_report::{CompileErrorKind, Location};
+use std::alloc::{AllocError, Global};
+use strkw_report::{CompileError, Location};
 
 /// Why a schema document is refused.
 #[derive(Debug, Drop)]
@@ -17,7 +19,7 @@ pub enum SchemaErrorKind {
     /// `$schema` names a dialect that is not known.
     UnknownDialect,
     /// A string keyword is refused.
-    Text(CompileErrorKind),
+    Text(CompileError),
     /// Out of memory.
     Memory,
 }
@@ -39,6 +41,53 @@ impl SchemaError {
         SchemaError {
             kind: SchemaErrorKind::Memory,
             location: Location::root(alloc),
+        }
+    }
+
+    /// What is refused, and where, as a JSON pointer behind `#`. It is refused only where it is out of memory.
+    pub fn text(&self, alloc: Global) -> Result<String, AllocError>
+        ensures { IfOk result (λ s. prints_float (reason_of self.now.kind) ≡ false
+            → string_bytes s ≡ refusal_text (reason_of self.now.kind) self.now.location) }
+    {
+        let why = self.kind.text(alloc)?;
+        match &self.kind {
+            SchemaErrorKind::Memory => Ok(why),
+            _ => placed(alloc, self.location.as_str(), &why),
+        }
+    }
+}
+
+// What is said of a place.
+fn placed(alloc: Global, location: &str, text: &str) -> Result<String, AllocError>
+    ensures { IfOk result (λ s. string_bytes s
+        ≡ codes "at #" ++ location.now ++ codes ": " ++ text.now) }
+{
+    format!(in alloc; "at #{location}: {text}")
+}
+
+impl SchemaErrorKind {
+    fn text(&self, alloc: Global) -> Result<String, AllocError>
+        ensures { IfOk result (λ s. prints_float (reason_of self.now) ≡ false
+            → string_bytes s ≡ explanation (reason_of self.now)) }
+    {
+        match self {
+            SchemaErrorKind::WrongType => String::from_str(
+                alloc,
+                "the value is not of the kind required here",
+            ),
+            SchemaErrorKind::UnresolvedReference => {
+                String::from_str(alloc, "the reference leads to no schema of the document")
+            }
+            SchemaErrorKind::CircularReference => String::from_str(
+                alloc,
+                "the reference leads back to itself, and does not enter the instance on the way",
+            ),
+            SchemaErrorKind::UnknownDialect => String::from_str(
+                alloc,
+                "the value is none of http://json-schema.org/draft-04/schema, http://json-schema.org/draft-06/schema, http://json-schema.org/draft-07/schema, https://json-schema.org/draft/2019-09/schema and https://json-schema.org/draft/2020-12/schema",
+            ),
+            SchemaErrorKind::Text(refusal) => refusal.text(alloc),
+            SchemaErrorKind::Memory => String::from_str(alloc, "out of memory"),
         }
     }
 }

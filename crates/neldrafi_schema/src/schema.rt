@@ -4,7 +4,7 @@ ghost use Rattle.std.specs.Prelude.{◌↔◌, ◌≡◌, ◌⊎◌, ◌++◌, �
 ghost use Rattle.serde_json.specs.View.{view};
 ghost use Rattle.strkw_keywords.specs.Handed.{lists_of};
 ghost use Rattle.neldrafi_schema.specs.Errors.{Error};
-ghost use Rattle.neldrafi_schema.specs.machine.Closures.{AreTextErrors, IsTextVerdict};
+ghost use Rattle.neldrafi_schema.specs.machine.Closures.{AreTextErrors, IsTextVerdict, text_in};
 ghost use Rattle.neldrafi_schema.specs.machine.Found.{Appended, IsAnswer, errors_of};
 ghost use Rattle.neldrafi_schema.specs.Meaning.{HasErrors};
 ghost use Rattle.neldrafi_schema.specs.machine.Problems.{reason_of};
@@ -35,7 +35,7 @@ pub struct Schema<'a, E> {
 }
 
 impl<'a, E: RegexEngine> Schema<'a, E> {
-    /// Compiles a document of draft 2020-12.
+    /// Compiles a document, of the draft of its `$schema`, or of `config`, or 2020-12.
     ///
     /// It is refused at the first value that has no meaning, or the first reference that comes to no end without
     /// entering the instance, whichever comes first in the order of the document: an object stands before its members,
@@ -80,13 +80,16 @@ impl<'a, E: RegexEngine> Schema<'a, E> {
             (view instance.now) []) }
     {
         let checks = &self.checks;
-        let text_accepts = |validator: &Validator<E>, instance: &Value| -> Result<bool, AllocError>
+        let text_accepts = |validator: &Validator<E>, text: Option<&str>| -> Result<
+            bool,
+            AllocError,
+        >
             requires { RestsOn E.outcome
                 (lists_of admits accepts is_encoding decoding checks.now) validator.now }
             ensures { IsTextVerdict E.outcome
                 (lists_of admits accepts is_encoding decoding checks.entry.now)
-                validator.now instance.now result }
-        { validator.is_valid(alloc, instance, checks) };
+                validator.now (text_in text.entry) result }
+        { validator.is_valid(alloc, &text, checks) };
         let checker = Checker {
             nodes: &self.nodes,
             text_accepts: &text_accepts,
@@ -138,14 +141,17 @@ impl<'a, E: RegexEngine> Schema<'a, E> {
             (view instance.now) (errors_of es.items)) }
     {
         let checks = &self.checks;
-        let text_accepts = |validator: &Validator<E>, instance: &Value| -> Result<bool, AllocError>
+        let text_accepts = |validator: &Validator<E>, text: Option<&str>| -> Result<
+            bool,
+            AllocError,
+        >
             requires { RestsOn E.outcome
                 (lists_of admits accepts is_encoding decoding checks.now) validator.now }
             ensures { IsTextVerdict E.outcome
                 (lists_of admits accepts is_encoding decoding checks.entry.now)
-                validator.now instance.now result }
-        { validator.is_valid(alloc, instance, checks) };
-        let text_errors = |validator: &Validator<E>, instance: &Value, site: &Site| -> Result<
+                validator.now (text_in text.entry) result }
+        { validator.is_valid(alloc, &text, checks) };
+        let text_errors = |validator: &Validator<E>, text: Option<&str>, site: &Site| -> Result<
             Vec<TextError>,
             AllocError,
         >
@@ -153,10 +159,10 @@ impl<'a, E: RegexEngine> Schema<'a, E> {
                 (lists_of admits accepts is_encoding decoding checks.now) validator.now }
             ensures { AreTextErrors E.outcome
                 (lists_of admits accepts is_encoding decoding checks.entry.now)
-                validator.now instance.now site.now result }
+                validator.now (text_in text.entry) site.now result }
         {
             let mut errors = Vec::new(alloc);
-            validator.collect_errors(alloc, instance, site, checks, &mut errors)?;
+            validator.collect_errors(alloc, &text, site, checks, &mut errors)?;
             Ok(errors)
         };
         let collector = Collector {

@@ -1,11 +1,9 @@
 -- The closures that call string keywords: when they may be called, and that what they answer is what
 -- the keywords report by some lists.
-use Rattle.std.specs.Prelude.{◌≡◌, ◌↔◌, ℕ, List, [], Bool, IsTrue, Result, IfOk, Vec, map}
+use Rattle.std.specs.Prelude.{◌≡◌, ◌↔◌, ℕ, List, [], Bool, IsTrue, Result, IfOk, Option, option_map, Vec, map}
 use Rattle.std.specs.Borrow.{Bor}
 use Rattle.std.specs.Fn.{Shared}
 use Rattle.std.specs.declared.alloc.Global.{Global}
-use Rattle.serde_json.specs.declared.value.Value.{Value}
-use Rattle.serde_json.specs.View.{view}
 use Rattle.strkw_report.specs.Kinds.{Report}
 use Rattle.strkw_report.specs.declared.error.Site.{Site}
 use Rattle.strkw_pattern.specs.declared.engine.Outcome.{Outcome}
@@ -15,33 +13,41 @@ use Rattle.strkw_keywords.specs.declared.validator.Validator.{Validator}
 use Rattle.neldrafi_schema.specs.Errors.{of_text}
 use Rattle.neldrafi_schema.specs.Meaning.{TextReports}
 
-module _ {E X : Type 0} (outcome : E → List ℕ → Outcome) (lists : Lists) (v : Validator E) (x : Value) where
-  -- whether an instance has no errors by a string keyword
+-- a text, or none, as it is handed to a closure
+abbrev pub Handed : Type 0
+Handed = Option (Bor (List ℕ))
+
+abbrev pub text_in : Handed → Option (List ℕ)
+text_in = option_map (λ s. s.now)
+
+module _ {E X : Type 0} (outcome : E → List ℕ → Outcome) (lists : Lists) (v : Validator E)
+    (text : Option (List ℕ)) where
+  -- whether a text has no errors by a string keyword
   abbrev pub IsTextVerdict : Result Bool X → Type 0
   IsTextVerdict r = IfOk r (λ b. (site : Site) → IsTrue b
-      ↔ TextReports lists (assertions_of outcome v) (view x) site [])
+      ↔ TextReports lists (assertions_of outcome v) text site [])
 
   -- its errors
   abbrev pub AreTextErrors : Site → Result (Vec Report Global) X → Type 0
   AreTextErrors site r = IfOk r (λ es.
-      TextReports lists (assertions_of outcome v) (view x) site (map of_text es.items))
+      TextReports lists (assertions_of outcome v) text site (map of_text es.items))
 
-module _ {E F X : Type 0} (call : Shared F (Bor (Validator E) × (Bor Value × Unit {0}))
+module _ {E F X : Type 0} (call : Shared F (Bor (Validator E) × (Handed × Unit {0}))
     (Result Bool X)) (f : F) where
   abbrev pub MayTest : Validator E → Type 0
-  MayTest v = (p : Bor (Validator E)) (x : Bor Value) → p.now ≡ v → call.pre f (p, (x, tt))
+  MayTest v = (p : Bor (Validator E)) (x : Handed) → p.now ≡ v → call.pre f (p, (x, tt))
 
   abbrev pub Tests : (E → List ℕ → Outcome) → Lists → Type 0
-  Tests outcome lists = (p : Bor (Validator E)) (x : Bor Value) (r : Result Bool X)
-      → call.post f (p, (x, tt)) r → IsTextVerdict outcome lists p.now x.now r
+  Tests outcome lists = (p : Bor (Validator E)) (x : Handed) (r : Result Bool X)
+      → call.post f (p, (x, tt)) r → IsTextVerdict outcome lists p.now (text_in x) r
 
 module _ {E F X : Type 0} (call : Shared F
-    (Bor (Validator E) × (Bor Value × (Bor Site × Unit {0}))) (Result (Vec Report Global) X)) (f : F) where
+    (Bor (Validator E) × (Handed × (Bor Site × Unit {0}))) (Result (Vec Report Global) X)) (f : F) where
   abbrev pub MayFind : Validator E → Type 0
-  MayFind v = (p : Bor (Validator E)) (x : Bor Value) (site : Bor Site) → p.now ≡ v
+  MayFind v = (p : Bor (Validator E)) (x : Handed) (site : Bor Site) → p.now ≡ v
       → call.pre f (p, (x, (site, tt)))
 
   abbrev pub Finds : (E → List ℕ → Outcome) → Lists → Type 0
-  Finds outcome lists = (p : Bor (Validator E)) (x : Bor Value) (site : Bor Site)
+  Finds outcome lists = (p : Bor (Validator E)) (x : Handed) (site : Bor Site)
       (r : Result (Vec Report Global) X) → call.post f (p, (x, (site, tt))) r
-      → AreTextErrors outcome lists p.now x.now site.now r
+      → AreTextErrors outcome lists p.now (text_in x) site.now r

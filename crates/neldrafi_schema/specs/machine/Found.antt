@@ -1,22 +1,38 @@
 -- Errors as the code has them.
 use Rattle.std.specs.Prelude.{◌≡◌, ◌++◌, ◌∷◌, ℕ, List, [], map, string_bytes, Result, Ok, Err}
-use Rattle.serde_json.specs.View.{view}
+use Rattle.serde_json.specs.View.{number_view, view}
 use Rattle.neldrafi_schema.specs.declared.error.ErrorKind.{ErrorKind}
-use Rattle.neldrafi_schema.specs.declared.error.ErrorKind.TheVariants.{FalseSchema, «Type», Required}
-use Rattle.neldrafi_schema.specs.declared.error.ErrorKind.TheVariants.{Not}
+use Rattle.neldrafi_schema.specs.declared.error.ErrorKind.TheVariants as kind
 use Rattle.neldrafi_schema.specs.declared.error.Failure.{Failure}
 use Rattle.neldrafi_schema.specs.declared.error.ValidationError.{ValidationError}
 use Rattle.neldrafi_schema.specs.declared.error.ValidationError.TheVariants.{Text, Failed}
 use Rattle.neldrafi_schema.specs.declared.error.Fault.{Fault}
 use Rattle.neldrafi_schema.specs.declared.error.Fault.TheVariants.{Invalid, Memory}
-use Rattle.neldrafi_schema.specs.Errors.{Kind, false_schema, not_of_types, missing, negated}
+use Rattle.neldrafi_schema.specs.Errors.{Kind, false_schema, not_of_types, not_among, not_equal_to, beyond, not_multiple}
+use Rattle.neldrafi_schema.specs.Errors.{of_other_size, not_distinct, missing, unexpected_members}
+use Rattle.neldrafi_schema.specs.Errors.{unexpected_items, negated, valid_by_none, valid_by_several}
+use Rattle.neldrafi_schema.specs.Errors.{none_contained}
 use Rattle.neldrafi_schema.specs.Errors.{Found, Error, found, of_text}
 
 abbrev pub kind_of : ErrorKind → Kind
-kind_of FalseSchema = false_schema
-kind_of («Type» ts) = not_of_types ts.items
-kind_of (Required name) = missing (string_bytes name)
-kind_of (Not schema) = negated (view schema)
+kind_of kind.FalseSchema = false_schema
+kind_of (kind.«Type» ts) = not_of_types ts.items
+kind_of (kind.Enum options) = not_among (map view options.items)
+kind_of (kind.Constant expected) = not_equal_to (view expected)
+kind_of (kind.Limit l n) = beyond l (number_view n)
+kind_of (kind.MultipleOf n) = not_multiple (number_view n)
+kind_of (kind.Size s n) = of_other_size s n
+kind_of kind.UniqueItems = not_distinct
+kind_of (kind.Required name) = missing (string_bytes name)
+kind_of (kind.AdditionalProperties names) = unexpected_members (map string_bytes names.items)
+kind_of (kind.AdditionalItems items) = unexpected_items (map view items.items)
+kind_of (kind.Not schema) = negated (view schema)
+kind_of (kind.NoneOf word) = valid_by_none (string_bytes word)
+kind_of kind.OneOfSeveral = valid_by_several
+kind_of kind.Contains = none_contained
+
+abbrev pub kinds_of : List ErrorKind → List Kind
+kinds_of = map kind_of
 
 abbrev pub failure_of : Failure → Found
 failure_of f = record {

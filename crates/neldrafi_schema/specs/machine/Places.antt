@@ -5,13 +5,9 @@ use Rattle.std.specs.List.{AllByRecursion}
 use Rattle.serde_json.specs.Data.{Data}
 use Rattle.serde_json.specs.View.{view}
 use Rattle.neldrafi_schema.specs.declared.places.Place.{Place}
-use Rattle.neldrafi_schema.specs.declared.places.Target.{Target}
 use Rattle.neldrafi_schema.specs.declared.places.Places.{Places}
 use Rattle.neldrafi_schema.specs.Paths.{Path, value_at}
-use Rattle.neldrafi_schema.specs.References.{schema_referred}
-
-abbrev pub path_of : List (String Global) → Path
-path_of keys = map string_bytes keys
+use Rattle.neldrafi_schema.specs.machine.Compiled.{path_of}
 
 abbrev pub place_path : Place → Path
 place_path p = path_of p.path.items
@@ -28,23 +24,12 @@ pub record Extends (old new : List Path) : Type 0 where
 abbrev pub StaysAt : List Path → ℕ → Path → Type 0
 StaysAt paths n path = (all : List Path) → Extends paths all → slice_get all n ≡ Some path
 
--- a number stands for the path to which a reference leads, if it leads to one
-abbrev pub StaysTarget : List Path → Option ℕ → Option Path → Type 0
-StaysTarget paths None target = target ≡ None
-StaysTarget paths (Some n) target = (path : Path) × (target ≡ Some path) × StaysAt paths n path
-
--- the reference leads to the place of the number
-abbrev pub IsTarget : Data → List Place → Target → Type 0
-IsTarget document places t = (path : Path) × (schema_referred document t.text.now ≡ Some path)
-    × (slice_get (paths_of places) t.number ≡ Some path)
-
 abbrev pub IsPlace : Data → Place → Type 0
 IsPlace document p = value_at (place_path p) document ≡ Some (view p.value.now)
 
--- each value is the document's at its path, and each reference leads where it is said to lead
+-- each value is the document's at its path
 pub record IsTable (t : Places) : Type 0 where
   pub values : AllByRecursion (IsPlace (view t.document.now)) t.places.items
-  pub targets : AllByRecursion (IsTarget (view t.document.now) t.places.items) t.targets.items
 
 pub record Grown (old new : Places) : Type 0 where
   pub document : view new.document.now ≡ view old.document.now

@@ -10,14 +10,14 @@ use Rattle.neldrafi_schema.specs.declared.refusal.SchemaErrorKind.TheVariants.{M
 use Rattle.neldrafi_schema.specs.Schemas.{Reason, wrong_type, unresolved_reference, circular_reference, unknown_dialect}
 use Rattle.neldrafi_schema.specs.Schemas.{by_string_keyword, out_of_memory}
 use Rattle.neldrafi_schema.specs.Refusals.{IsFirst, Problem as Refused}
-use Rattle.neldrafi_schema.specs.machine.Places.{path_of}
+use Rattle.neldrafi_schema.specs.machine.Compiled.{path_of}
 
 abbrev pub reason_of : SchemaErrorKind → Reason
 reason_of WrongType = wrong_type
 reason_of UnresolvedReference = unresolved_reference
 reason_of CircularReference = circular_reference
 reason_of UnknownDialect = unknown_dialect
-reason_of (Text kind) = by_string_keyword (text_reason_of kind)
+reason_of (Text refusal) = by_string_keyword (text_reason_of refusal.kind)
 reason_of Memory = out_of_memory
 
 abbrev pub problem_of : Problem → Refused

@@ -3,7 +3,7 @@ use Rattle.std.specs.Prelude.{◌≡◌, ◌<◌, ◌≤◌, ◌+◌, ◌*◌, �
 use Rattle.std.specs.List.{AllByRecursion}
 use Rattle.serde_json.specs.Data.{Data, depth}
 use Rattle.strkw_pattern.specs.declared.engine.Outcome.{Outcome}
-use Rattle.strkw_keywords.specs.Demands.{IsInUse}
+use Rattle.strkw_keywords.specs.Demands.{Demand, compares, matches, IsInUse}
 use Rattle.strkw_keywords.specs.Meanings.{Lists}
 use Rattle.strkw_keywords.specs.Validators.{demands_of}
 use Rattle.strkw_keywords.specs.declared.validator.Validator.{Validator}
@@ -11,8 +11,10 @@ use Rattle.neldrafi_schema.specs.declared.node.Node.{Node}
 use Rattle.neldrafi_schema.specs.declared.node.Body.{Body}
 use Rattle.neldrafi_schema.specs.declared.node.Body.TheVariants.{Always, Never, Keywords}
 use Rattle.neldrafi_schema.specs.declared.node.Keyword.{Keyword}
-use Rattle.neldrafi_schema.specs.declared.node.Keyword.TheVariants.{Types, Required, Not}
-use Rattle.neldrafi_schema.specs.declared.node.Keyword.TheVariants.{Properties, Ref, Text}
+use Rattle.neldrafi_schema.specs.declared.node.Keyword.TheVariants.{Rule as Rule_, Text}
+use Rattle.neldrafi_schema.specs.declared.node.Rule.{Rule}
+use Rattle.neldrafi_schema.specs.declared.node.Rule.TheVariants.{Matching}
+use Rattle.neldrafi_schema.specs.declared.node.Ruled.{Ruled}
 use Rattle.neldrafi_schema.specs.Refusals.{ends}
 use Rattle.neldrafi_schema.specs.machine.Compiled.{schemas_of}
 
@@ -20,14 +22,26 @@ use Rattle.neldrafi_schema.specs.machine.Compiled.{schemas_of}
 abbrev pub RestsOn : {E : Type 0} → (E → List ℕ → Outcome) → Lists → Validator E → Type 0
 RestsOn outcome lists v = IsInUse (demands_of outcome v) lists
 
-module _ {E : Type 0} (MayCall : Validator E → Type 0) (count : ℕ) where
-  -- the schemas of properties are there, and a string keyword may be called
+-- it demands nothing but patterns
+abbrev pub IsPattern : Demand → Type 0
+IsPattern (compares p search) = Unit {0}
+IsPattern (matches p search) = Unit {0}
+IsPattern other = ⊥
+
+module _ {E : Type 0} (outcome : E → List ℕ → Outcome) (MayCall : Validator E → Type 0) (count : ℕ) where
+  abbrev pub IsPatternReady : Validator E → Type 0
+  IsPatternReady v = MayCall v × AllByRecursion IsPattern (demands_of outcome v)
+
+  abbrev pub IsRuleReady : Rule E → Type 0
+  IsRuleReady (Matching patterns) = AllByRecursion IsPatternReady patterns.items
+  IsRuleReady other = Unit {0}
+
+  abbrev pub IsRuledReady : Ruled E → Type 0
+  IsRuledReady r = IsRuleReady r.rule × AllByRecursion (λ b. b.schema < count) r.branches.items
+
+  -- the schemas to which it leads are there, and string keywords may be called
   abbrev pub IsKeywordReady : Keyword E → Type 0
-  IsKeywordReady (Types ts) = Unit {0}
-  IsKeywordReady (Required names) = Unit {0}
-  IsKeywordReady (Not n schema) = Unit {0}
-  IsKeywordReady (Properties ps) = AllByRecursion (λ p. p.schema < count) ps.items
-  IsKeywordReady (Ref n) = Unit {0}
+  IsKeywordReady (Rule_ r) = IsRuledReady r
   IsKeywordReady (Text v) = MayCall v
 
   abbrev pub IsBodyReady : Body E → Type 0
@@ -41,7 +55,7 @@ pub record IsReady {E : Type 0} (outcome : E → List ℕ → Outcome) (MayCall 
   pub some : 0 < length nodes
   pub end : (n : ℕ) → n < length nodes
       → ends (schemas_of outcome nodes) (length nodes) n ≡ true
-  pub each : AllByRecursion (λ node. IsBodyReady MayCall (length nodes) node.body) nodes
+  pub each : AllByRecursion (λ node. IsBodyReady outcome MayCall (length nodes) node.body) nodes
 
 -- how many steps are taken at most for an instance, where so many are left that do not enter it
 abbrev pub steps_for : ℕ → Data → ℕ → ℕ

@@ -1,41 +1,103 @@
 -- What was read of a document, as the code has it.
-use Rattle.std.specs.Prelude.{◌≡◌, ◌++◌, ℕ, List, [], ◌∷◌, map, Bool, false, Option, None, unwrap_or}
-use Rattle.std.specs.Prelude.{length, slice_get}
+use Rattle.std.specs.Prelude.{◌≡◌, ◌++◌, ℕ, List, [], ◌∷◌, map, Bool, true, false, Option, Some, None, option_map}
+use Rattle.std.specs.Prelude.{Result, Ok, Err, Vec, string_bytes, unwrap_or, length, slice_get}
+use Rattle.std.specs.List.{AllByRecursion}
+use Rattle.std.specs.declared.alloc.Global.{Global}
+use Rattle.strkw_report.specs.Refusals.{reason_of as text_reason_of}
+use Rattle.strkw_report.specs.declared.refusal.CompileError.{CompileError}
+use Rattle.strkw_report.specs.declared.refusal.CompileErrorKind.{CompileErrorKind}
+use Rattle.strkw_report.specs.declared.refusal.CompileErrorKind.TheVariants.{Memory as OutOfMemory}
+use Rattle.strkw_keywords.specs.declared.keyword.Keyword.{Keyword as TextKeyword}
+use Rattle.strkw_keywords.specs.declared.keyword.Keyword.TheVariants as text
+use Rattle.strkw_keywords.specs.declared.validator.Validator.{Validator}
+use Rattle.strkw_keywords.specs.Validators.{assertions_of, demands_of}
 use Rattle.strkw_pattern.specs.declared.engine.Outcome.{Outcome}
 use Rattle.strkw_keywords.specs.Meanings.{Lists}
 use Rattle.neldrafi_schema.specs.declared.node.Body.{Body as CompiledBody}
 use Rattle.neldrafi_schema.specs.declared.problem.Problem.{Problem}
+use Rattle.neldrafi_schema.specs.declared.reading.RefusedPattern.{RefusedPattern}
 use Rattle.neldrafi_schema.specs.declared.reading.Said.{Said}
 use Rattle.neldrafi_schema.specs.declared.reading.Said.TheVariants as said
-use Rattle.neldrafi_schema.specs.Paths.{Path}
-use Rattle.neldrafi_schema.specs.Schemas.{Keyword, malformed, Body, always, never, neither, keywords}
-use Rattle.neldrafi_schema.specs.Reading.{Numbered, numbered_by}
+use Rattle.neldrafi_schema.specs.declared.senses.Lead.{Lead as CompiledLead}
+use Rattle.neldrafi_schema.specs.declared.senses.Sense.{Sense as CompiledSense}
+use Rattle.neldrafi_schema.specs.declared.senses.Sense.TheVariants as sense
+use Rattle.neldrafi_schema.specs.Values.{Lead, Sense, nothing, says, refused}
+use Rattle.neldrafi_schema.specs.Paths.{Path, key}
+use Rattle.neldrafi_schema.specs.Schemas.{by_string_keyword, Keyword, malformed, string_keyword, Body, always, never, neither, keywords}
+use Rattle.neldrafi_schema.specs.Reading.{Numbered, Patterns, patterns, malformed_at, numbered_by}
 use Rattle.neldrafi_schema.specs.Refusals.{body_problems}
-use Rattle.neldrafi_schema.specs.machine.Compiled.{keyword_of, body_of}
-use Rattle.neldrafi_schema.specs.machine.Places.{Extends}
+use Rattle.neldrafi_schema.specs.machine.Compiled.{segment_of, rule_of, keyword_of, body_of}
+use Rattle.neldrafi_schema.specs.machine.Places.{Extends, place_path}
 use Rattle.neldrafi_schema.specs.machine.Problems.{Notes, reason_of}
-use Rattle.neldrafi_schema.specs.machine.Ready.{IsKeywordReady, IsBodyReady, RestsOn}
+use Rattle.neldrafi_schema.specs.machine.Ready.{IsBodyReady, IsKeywordReady, IsPattern, IsPatternReady}
+use Rattle.neldrafi_schema.specs.machine.Ready.{IsRuleReady, RestsOn}
 
 -- a fact of the numbers of these paths, however many more are found
 abbrev pub Always : List Path → (Numbered → Type 0) → Type 0
 Always paths P = (all : List Path) → Extends paths all → P (numbered_by all)
 
+-- what a keyword came to, with its schemas by their places
+abbrev pub lead_of : CompiledLead → Lead
+lead_of l = record { key = option_map segment_of l.key; path = place_path l.place }
+
+abbrev pub is_memory : CompileErrorKind → Bool
+is_memory OutOfMemory = true
+is_memory other = false
+
+abbrev pub is_out_of_memory : {V : Type 0} → Option (Result V CompileError) → Bool
+is_out_of_memory (Some (Err e)) = is_memory e.kind
+is_out_of_memory other = false
+
 module _ {E : Type 0} (outcome : E → List ℕ → Outcome) where
+  abbrev pub sense_of : CompiledSense E → Sense
+  sense_of sense.Nothing = nothing
+  sense_of (sense.Says r leads) = says (rule_of outcome r) (map lead_of leads.items)
+  sense_of (sense.Refused kind) = refused (reason_of kind)
+
   -- the keywords that a member of this name comes to
   abbrev pub said_keywords : List ℕ → Said E → List Keyword
   said_keywords name said.Nothing = []
   said_keywords name (said.Keyword k) = keyword_of outcome k ∷ []
-  said_keywords name (said.Malformed kind) = malformed name (reason_of kind) ∷ []
+  said_keywords name (said.Malformed kind) = malformed (key name ∷ []) (reason_of kind) ∷ []
+  said_keywords name (said.MalformedAt below kind) =
+      malformed (key name ∷ key (string_bytes below) ∷ []) (reason_of kind) ∷ []
 
   abbrev pub IsSaidReady : Lists → List Path → Said E → Type 0
-  IsSaidReady lists paths said.Nothing = Unit {0}
-  IsSaidReady lists paths (said.Malformed kind) = Unit {0}
   IsSaidReady lists paths (said.Keyword k) = (all : List Path) → Extends paths all
-      → IsKeywordReady (RestsOn outcome lists) (length all) k
+      → IsKeywordReady outcome (RestsOn outcome lists) (length all) k
+  IsSaidReady lists paths other = Unit {0}
+
+  -- a rule with patterns, and what a rule may be called with
+  abbrev pub IsSenseReady : Lists → CompiledSense E → Type 0
+  IsSenseReady lists (sense.Says r leads) =
+      (count : ℕ) → IsRuleReady outcome (RestsOn outcome lists) count r
+  IsSenseReady lists other = Unit {0}
+
+  -- what a string keyword comes to, which stands there
+  abbrev pub read_keywords : Path → Option (Result (Validator E) CompileError) → List Keyword
+  read_keywords at None = []
+  read_keywords at (Some (Ok v)) = string_keyword (assertions_of outcome v) ∷ []
+  read_keywords at (Some (Err e)) = malformed at (by_string_keyword (text_reason_of e.kind)) ∷ []
+
+  abbrev pub IsReadReady : Lists → TextKeyword → Option (Result (Validator E) CompileError) → Type 0
+  IsReadReady lists k (Some (Ok v)) = RestsOn outcome lists v
+      × (k ≡ text.Pattern → AllByRecursion IsPattern (demands_of outcome v))
+  IsReadReady lists k other = Unit {0}
+
+  -- what patterns come to below a keyword of this name
+  abbrev pub patterns_of : List ℕ → Result (Vec (Validator E) Global) RefusedPattern → Patterns
+  patterns_of name (Ok vs) = patterns (map (assertions_of outcome) vs.items)
+  patterns_of name (Err p) = malformed_at (key name ∷ key (string_bytes p.pattern) ∷ [])
+      (by_string_keyword (text_reason_of p.refusal.kind))
+
+  abbrev pub ArePatternsReady : Lists → Result (Vec (Validator E) Global) RefusedPattern → Type 0
+  ArePatternsReady lists (Ok vs) = (count : ℕ)
+      → AllByRecursion (IsPatternReady outcome (RestsOn outcome lists) count) vs.items
+  ArePatternsReady lists (Err p) = Unit {0}
 
 -- the keywords that have a meaning
 abbrev pub meaningful_one : Keyword → List Keyword
-meaningful_one (malformed name why) = []
+meaningful_one (malformed path why) = []
 meaningful_one k = k ∷ []
 
 abbrev pub meaningful : List Keyword → List Keyword
@@ -58,7 +120,7 @@ pub record Reads {E : Type 0} (outcome : E → List ℕ → Outcome) (lists : Li
   pub means : Always paths (λ numbered. says numbered said)
   pub notes : Notes (body_problems path said) old new
   pub same : body_of outcome body ≡ meaningful_body said
-  pub ready : (all : List Path) → Extends paths all → IsBodyReady (RestsOn outcome lists) (length all) body
+  pub ready : (all : List Path) → Extends paths all → IsBodyReady outcome (RestsOn outcome lists) (length all) body
 
 -- a flag, false where there is none
 abbrev pub flag_at : List Bool → ℕ → Bool

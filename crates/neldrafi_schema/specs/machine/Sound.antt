@@ -1,19 +1,15 @@
 -- Lists of schemas by which each instance has errors or none.
 use Rattle.std.specs.Prelude.{◌≡◌, ◌<◌, ℕ, List, Some, true, length, slice_get}
 use Rattle.std.specs.List.{AllByRecursion}
-use Rattle.neldrafi_schema.specs.Schemas.{Keyword, types, required, negation, properties, reference, string_keyword, malformed}
+use Rattle.neldrafi_schema.specs.Schemas.{Keyword, rule, string_keyword, malformed}
 use Rattle.neldrafi_schema.specs.Schemas.{Body, always, never, keywords, neither, Schema}
 use Rattle.neldrafi_schema.specs.Refusals.{ends}
 
--- what is said of a list of schemas: every keyword has a meaning, and properties lead to schemas of the list
+-- what is said of a list of schemas: every keyword has a meaning, and leads to schemas of the list
 abbrev pub IsSoundKeyword : ℕ → Keyword → Type 0
-IsSoundKeyword count (types ts) = Unit {0}
-IsSoundKeyword count (required names) = Unit {0}
-IsSoundKeyword count (negation n schema) = Unit {0}
-IsSoundKeyword count (properties ps) = AllByRecursion (λ p. p.1 < count) ps
-IsSoundKeyword count (reference n) = Unit {0}
+IsSoundKeyword count (rule name r bs) = AllByRecursion (λ b. b.schema < count) bs
 IsSoundKeyword count (string_keyword asserted) = Unit {0}
-IsSoundKeyword count (malformed name why) = ⊥
+IsSoundKeyword count (malformed path why) = ⊥
 
 abbrev pub IsSoundBody : ℕ → Body → Type 0
 IsSoundBody count always = Unit {0}

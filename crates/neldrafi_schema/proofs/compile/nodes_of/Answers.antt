@@ -3,12 +3,15 @@ use Rattle.std.specs.Prelude.{slice_get}
 use Rattle.serde_json.specs.View.{view}
 use Rattle.serde_json.specs.Data.{Data}
 use Rattle.strkw_keywords.specs.Object.{Settings}
+use Rattle.strkw_report.specs.declared.draft.Draft.{Draft}
+use Rattle.neldrafi_schema.specs.Drafts.{draft_of}
 use Rattle.neldrafi_schema.specs.Paths.{Path, location_of}
 use Rattle.neldrafi_schema.specs.Reading.{BodySays}
 use Rattle.neldrafi_schema.specs.Refusals.{ends, schemas_endless}
 use Rattle.neldrafi_schema.specs.Settings.{config_settings}
 use Rattle.neldrafi_schema.specs.machine.Compiled.{schemas_of}
-use Rattle.neldrafi_schema.specs.machine.Places.{path_of, paths_of, place_path}
+use Rattle.neldrafi_schema.specs.machine.Compiled.{path_of}
+use Rattle.neldrafi_schema.specs.machine.Places.{paths_of, place_path}
 use Rattle.neldrafi_schema.specs.machine.Problems.{Notes}
 use Rattle.neldrafi_schema.specs.machine.Said.{Reads, flag_at}
 use Rattle.neldrafi_schema.proofs.Documents.{is_refused, is_said, nothing_read, one_more}
@@ -43,10 +46,14 @@ loop-number-preserved g c =
     let path : path_of c.deref-in-loop-number-2.result.now ≡ place_path place =
     ap path_of c.deref-in-loop-number-2.ensures.value ∙ (c.in_ok-path.ensures ∙ ap path_of c.deref-in-loop-number.ensures.value) in
     let ReadsAt =
-    λ (d : Data) (p : Path). Reads outcome s.lists (λ numbered body. BodySays numbered s d p (view place.value.now) body) p
+    λ (draft : Draft) (d : Data) (p : Path). Reads outcome s.lists (λ numbered body. BodySays numbered (record s { draft = draft }) d p (view place.value.now) body) p
     (paths_of c.read_schema.new.places.places.items)
     c.loop-number.first c.read_schema.new.first c.in_ok-node.node.body in
-    let reads = subst (ReadsAt document) path (subst (λ d. ReadsAt d (path_of c.deref-in-loop-number-2.result.now)) read.whole c.in_ok-node.ensures.read) in
+    let draft : c.draft_of.result ≡ draft_of s.draft document = search rules in
+    let reads =
+    subst (λ draft. ReadsAt draft document (place_path place)) draft
+    (subst (ReadsAt c.draft_of.result document) path
+    (subst (λ d. ReadsAt c.draft_of.result d (path_of c.deref-in-loop-number-2.result.now)) read.whole c.in_ok-node.ensures.read)) in
     one_more outcome s document c.loop-number.places c.read_schema.new.places c.loop-number.nodes.items c.push.new.self.items c.loop-number.first c.read_schema.new.first c.loop-number.number
     place c.in_ok-node.node read at c.in_ok-node.ensures.grown reads (c.in_ok-node.ensures.location ∙ ap location_of path) c.in_ok-push.ensures.items
 

@@ -1,6 +1,6 @@
 use Rattle.std.proofs.Common.{map, take}
 use Rattle.neldrafi_schema.specs.machine.Compiled.{keyword_of}
-use Rattle.neldrafi_schema.specs.machine.Places.{path_of}
+use Rattle.neldrafi_schema.specs.machine.Compiled.{path_of}
 use Rattle.neldrafi_schema.specs.machine.Problems.{Notes}
 use Rattle.neldrafi_schema.specs.Refusals.{keywords_endless}
 use Rattle.neldrafi_schema.specs.machine.Said.{flag_at}

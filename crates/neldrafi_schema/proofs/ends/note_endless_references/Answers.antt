@@ -1,5 +1,6 @@
 use Rattle.std.proofs.Common.{rules, ◌<◌, ◌∙◌, ap, length, sym}
-use Rattle.neldrafi_schema.specs.machine.Places.{path_of, place_path}
+use Rattle.neldrafi_schema.specs.machine.Compiled.{path_of}
+use Rattle.neldrafi_schema.specs.machine.Places.{place_path}
 use Rattle.neldrafi_schema.specs.machine.Said.{flag_at}
 use Rattle.neldrafi_schema.proofs.Noting.{node_ends, node_noted}
 use Rattle.neldrafi_schema.proofs.ends.note_endless_references.Goals.{in-Keywords+in_ok-note_endless, in_default}

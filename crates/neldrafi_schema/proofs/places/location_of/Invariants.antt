@@ -1,6 +1,7 @@
-use Rattle.std.proofs.Common.{◌≡◌, map, take, string_bytes}
+use Rattle.std.proofs.Common.{◌≡◌, take}
 use Rattle.neldrafi_schema.specs.Paths.{location_of}
+use Rattle.neldrafi_schema.specs.machine.Compiled.{path_of}
 use Rattle.neldrafi_schema.proofs.places.location_of.Given as goal
 
-abbrev pub invariant-loop-key : goal.invariant-loop-key
-invariant-loop-key l = l.location ≡ location_of (map string_bytes (take l.key-index l.path))
+abbrev pub invariant-loop-segment : goal.invariant-loop-segment
+invariant-loop-segment l = l.location ≡ location_of (path_of (take l.segment-index l.path))

@@ -1,5 +1,6 @@
-use Rattle.std.proofs.Common.{◌≡◌, map, take, string_bytes}
+use Rattle.std.proofs.Common.{◌≡◌, map, take}
+use Rattle.neldrafi_schema.specs.machine.Compiled.{path_of}
 use Rattle.neldrafi_schema.proofs.places.path_copy.Given as goal
 
-abbrev pub invariant-loop-key : goal.invariant-loop-key
-invariant-loop-key l = map string_bytes l.copy.items ≡ map string_bytes (take l.key-index l.path)
+abbrev pub invariant-loop-segment : goal.invariant-loop-segment
+invariant-loop-segment l = path_of l.copy.items ≡ path_of (take l.segment-index l.path)

@@ -1,7 +1,7 @@
 use Rattle.std.proofs.Common.{◌≡◌, ◌∙◌, ◌∷◌, [], ap, sym, subst, Some}
 use Rattle.neldrafi_schema.specs.declared.problem.Problem.{Problem}
 use Rattle.neldrafi_schema.specs.machine.Problems.{Notes, problem_of, reason_of}
-use Rattle.neldrafi_schema.specs.machine.Places.{path_of}
+use Rattle.neldrafi_schema.specs.machine.Compiled.{path_of}
 use Rattle.neldrafi_schema.specs.Paths.{StandsBefore}
 use Rattle.neldrafi_schema.proofs.Keeping.{noted_alone, noted_first}
 use Rattle.neldrafi_schema.proofs.problem.Problem.note.Goals.{in-Some, in-None}

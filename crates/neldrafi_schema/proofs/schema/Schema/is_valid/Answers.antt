@@ -2,15 +2,18 @@ use Rattle.std.proofs.Common.{◌∙◌, subst, sym}
 use Rattle.std.proofs.lemmas.Result.{IfOk-weaker}
 use Rattle.serde_json.specs.View.{view}
 use Rattle.neldrafi_schema.specs.machine.Ready.{RestsOn}
-use Rattle.neldrafi_schema.proofs.Walks.{ready_alike, whole_accepts}
+use Rattle.neldrafi_schema.proofs.Wholes.{ready_alike, whole_accepts}
 use Rattle.neldrafi_schema.proofs.schema.Schema.is_valid.Goals as goal
 
 pub accepts-requires-clause-ready : goal.accepts-requires-clause-ready
-accepts-requires-clause-ready g c = ready_alike g.E.RegexEngine.outcome c.args.self.now.nodes.items _ _ c.deref.result.now
-    (λ v rests p x e. subst (RestsOn g.E.RegexEngine.outcome _) (sym e) rests) c.deref.ensures.value c.requires
+accepts-requires-clause-ready g c = ready_alike g.E.RegexEngine.outcome c.args.self.now.nodes.items c.deref.result.now c.deref.ensures.value _ _
+    (λ v rests p x e. subst (RestsOn g.E.RegexEngine.outcome _) (sym e) rests) c.requires
+
+pub accepts-requires-clause-answers : goal.accepts-requires-clause-answers
+accepts-requires-clause-answers g c = (_, λ p x r answered. answered.1)
 
 pub returns : goal.returns
 returns g c =
     IfOk-weaker c.accepts.result _ _ (whole_accepts g.E.RegexEngine.outcome c.args.self.now.nodes.items c.deref.result.now c.deref.ensures.value c.len.result
     (c.len.ensures ∙ c.args.self.now.nodes.ok.0) _ (view c.args.instance.now))
-    (c.accepts.ensures _ (λ p x r answered. answered))
+    (c.accepts.ensures _ (λ p x r answered. answered.1))

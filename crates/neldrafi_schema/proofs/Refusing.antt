@@ -1,0 +1,16 @@
+-- What a refusal says, by its kind.
+use Rattle.std.proofs.Common.{◌≡◌, ◌++◌, List, ℕ, refl}
+use Rattle.std.specs.Prelude.{codes}
+use Rattle.neldrafi_schema.specs.declared.refusal.SchemaErrorKind.{SchemaErrorKind}
+use Rattle.neldrafi_schema.specs.declared.refusal.SchemaErrorKind.TheVariants.{CircularReference, Memory, Text, UnknownDialect, UnresolvedReference, WrongType}
+use Rattle.neldrafi_schema.specs.Explanations.{explanation, refusal_text}
+use Rattle.neldrafi_schema.specs.machine.Problems.{reason_of}
+
+pub placed_text : (kind : SchemaErrorKind) (location : List ℕ) → (kind ≡ Memory → ⊥)
+    → codes "at #" ++ location ++ codes ": " ++ explanation (reason_of kind) ≡ refusal_text (reason_of kind) location
+placed_text WrongType location other = refl
+placed_text UnresolvedReference location other = refl
+placed_text CircularReference location other = refl
+placed_text UnknownDialect location other = refl
+placed_text (Text refusal) location other = refl
+placed_text Memory location other = absurd (other refl)

@@ -1,0 +1,105 @@
+-- What the walk over an instance answers: keyword by keyword, and target by target.
+use Rattle.std.proofs.Common.{◌≡◌, ◌↔◌, ◌∙◌, ℕ, zero, suc, ◌+◌, ◌-◌, ◌<◌, ◌≤◌, List, [], ◌∷◌, ◌++◌, length, get_or, map, refl, sym, ap, subst, arith, le_refl, Bool, true, false, IsTrue, Vec, Global}
+use Rattle.std.proofs.lemmas.Bool.{false≢true}
+use Rattle.std.specs.Prelude.{if◌then◌else◌}
+use Rattle.std.specs.List.{AllByRecursion, list_all}
+use Rattle.serde_json.specs.Data.{Data, depth}
+use Rattle.strkw_report.specs.declared.error.Site.{Site}
+use Rattle.strkw_keywords.specs.Meanings.{Lists}
+use Rattle.neldrafi_schema.specs.Errors.{Error}
+use Rattle.neldrafi_schema.specs.Schemas.{Branch, Keyword, Rule, Schema, rule}
+use Rattle.neldrafi_schema.specs.Rules.{Target, applied, kinds, tested}
+use Rattle.neldrafi_schema.specs.Meaning.{AreVerdicts, Below, EachReports, KeywordReports, KeywordsReport, error_of, site_of}
+use Rattle.neldrafi_schema.specs.Refusals.{ends, in_place, is_in_place, schemas_in}
+use Rattle.neldrafi_schema.specs.machine.Ready.{steps_for}
+use Rattle.neldrafi_schema.proofs.Depth.{fewer_steps}
+use Rattle.neldrafi_schema.proofs.Determined.{verdicts_same}
+use Rattle.neldrafi_schema.proofs.Fitting.{and_left, and_right}
+use Rattle.neldrafi_schema.proofs.Lists.{nil_left, nil_right}
+use Rattle.neldrafi_schema.proofs.Within.{Deep, Hold, applied_hold, tested_hold}
+
+pub holds : (X : Type 0) (b : Bool) → b ≡ true → X → IsTrue b ↔ X
+holds X b e x = (λ t. x, λ y. e)
+
+-- where something would make a test hold that does not, it is not so
+pub refutes : (X : Type 0) (b : Bool) → b ≡ false → (X → IsTrue b) → IsTrue false ↔ X
+refutes X b e so = (λ t. absurd (false≢true t), λ x. sym e ∙ so x)
+
+pub nothing_mapped : {A B : Type 0} (f : A → B) (xs : List A) → map f xs ≡ [] → xs ≡ []
+nothing_mapped f [] e = refl
+nothing_mapped f (x ∷ xs) e = cc
+
+-- ---- one after the other, where the first reports nothing
+
+module _ (below : Below) (lists : Lists) (location : List ℕ) (beside : List Keyword) (d : Data) (site : Site) (k : Keyword) (ks : List Keyword) where
+  pub keyword_first : KeywordsReport below lists location beside (k ∷ ks) d site [] → KeywordReports below lists location beside k d site []
+  keyword_first (a, b, p, q, e) = subst (λ es. KeywordReports below lists location beside k d site es) (nil_left a b e) p
+
+  pub keyword_passed : KeywordReports below lists location beside k d site []
+      → KeywordsReport below lists location beside (k ∷ ks) d site [] ↔ KeywordsReport below lists location beside ks d site []
+  keyword_passed p = (λ (a, b, o, q, e). subst (λ es. KeywordsReport below lists location beside ks d site es) (nil_right a b e) q, λ q. ([], [], p, q, refl))
+
+module _ (below : Below) (site : Site) (word : List ℕ) (t : Target) (ts : List Target) where
+  pub target_first : EachReports below site word (t ∷ ts) [] → below t.schema t.value (site_of site word t) []
+  target_first (a, b, p, q, e) = subst (below t.schema t.value (site_of site word t)) (nil_left a b e) p
+
+  pub target_passed : below t.schema t.value (site_of site word t) [] → EachReports below site word (t ∷ ts) [] ↔ EachReports below site word ts []
+  target_passed p = (λ (a, b, o, q, e). subst (λ es. EachReports below site word ts es) (nil_right a b e) q, λ q. ([], [], p, q, refl))
+
+  -- the verdicts on the rest, and that on the first
+  pub verdict_first : (b : Bool) (vs : List Bool) → (IsTrue b ↔ below t.schema t.value (site_of site word t) []) → AreVerdicts below site word ts vs
+      → AreVerdicts below site word (t ∷ ts) (b ∷ vs)
+  verdict_first b vs p q = (b, vs, p, q, refl)
+
+-- ---- a rule, by its verdicts
+
+module _ (below : Below) (lists : Lists) (location : List ℕ) (beside : List Keyword) (word : List ℕ) (r : Rule) (bs : List Branch) (d : Data) (site : Site)
+    (vs : List Bool) (tests : AreVerdicts below site word (tested r bs d) vs) where
+  abbrev Reported : Type 0
+  Reported = KeywordReports below lists location beside (rule word r bs) d site []
+
+  pub rule_passes : kinds beside word r d vs ≡ [] → EachReports below site word (applied beside r bs d vs) [] → Reported
+  rule_passes e p = (vs, [], tests, p, rw e refl)
+
+  pub no_kinds : Reported → kinds beside word r d vs ≡ []
+  no_kinds (ws, later, w, p, e) =
+      let same : ws ≡ vs = verdicts_same below site word (tested r bs d) ws vs w tests in
+      ap (kinds beside word r d) (sym same)
+      ∙ nothing_mapped (error_of location site word d) (kinds beside word r d ws) (nil_left (map (error_of location site word d) (kinds beside word r d ws)) later e)
+
+  pub no_targets : Reported → EachReports below site word (applied beside r bs d vs) []
+  no_targets (ws, later, w, p, e) =
+      let same : ws ≡ vs = verdicts_same below site word (tested r bs d) ws vs w tests in
+      subst (λ us. EachReports below site word (applied beside r bs d us) []) same
+      (subst (λ es. EachReports below site word (applied beside r bs d ws) es) (nil_right (map (error_of location site word d) (kinds beside word r d ws)) later e) p)
+
+-- ---- the steps that are left
+
+-- what is tested and applied ends within the steps that are left, and takes no more of them than the keyword
+module _ (schemas : List Schema) (count : ℕ) (word : List ℕ) (r : Rule) (bs : List Branch) (d : Data) (steps left : ℕ) where
+  abbrev pub IsNext : ℕ → Data → Type 0
+  IsNext n v = (ends schemas left n ≡ true) × (steps_for count v left ≤ steps_for count d steps)
+
+  module _ (inside : AllByRecursion (λ b. b.schema < count) bs) (end : (n : ℕ) → n < count → ends schemas count n ≡ true)
+      (here : list_all (ends schemas steps) (in_place (rule word r bs)) ≡ true) (is : left ≡ (if is_in_place r then steps else count)) where
+    each_here : (cs : List Branch) → list_all (ends schemas steps) (schemas_in cs) ≡ true → left ≡ steps → AllByRecursion (λ b. IsNext b.schema d) cs
+    each_here [] e same = tt
+    each_here (b ∷ cs) e same =
+        ((rw same (and_left _ _ e), rw same (le_refl (steps_for count d steps))), each_here cs (and_right (ends schemas steps b.schema) _ e) same)
+
+    next_here : is_in_place r ≡ true → AllByRecursion (λ b. IsNext b.schema d) bs
+    next_here h = each_here bs (rw h at here) (rw h at is)
+
+    each_below : (cs : List Branch) → AllByRecursion (λ b. b.schema < count) cs → left ≡ count → AllByRecursion (Deep IsNext d) cs
+    each_below [] all same = tt
+    each_below (b ∷ cs) all same =
+        ((λ v less. (rw same (end b.schema all.0), rw same (omega (arith, fewer_steps count (depth v) (depth d) steps less)))), each_below cs all.1 same)
+
+    next_below : is_in_place r ≡ false → AllByRecursion (Deep IsNext d) bs
+    next_below h = each_below bs inside (rw h at is)
+
+    pub tested_next : Hold IsNext (tested r bs d)
+    tested_next = tested_hold IsNext d r bs next_here next_below
+
+    pub applied_next : (beside : List Keyword) (vs : List Bool) → Hold IsNext (applied beside r bs d vs)
+    applied_next beside vs = applied_hold IsNext d beside r bs vs next_here next_below

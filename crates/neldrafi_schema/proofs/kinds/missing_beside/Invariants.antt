@@ -1,0 +1,12 @@
+use Rattle.std.proofs.Common.{◌≡◌, ◌++◌, drop, map}
+use Rattle.std.specs.List.{flat_map}
+use Rattle.serde_json.specs.View.{view}
+use Rattle.neldrafi_schema.specs.Rules.{missing_beside}
+use Rattle.neldrafi_schema.specs.machine.Compiled.{dependency_of}
+use Rattle.neldrafi_schema.specs.machine.Found.{kinds_of}
+use Rattle.neldrafi_schema.proofs.kinds.missing_beside.Given as goal
+
+-- what is missing so far, and what is left
+abbrev pub invariant-loop-dependency : goal.invariant-loop-dependency
+invariant-loop-dependency l = kinds_of l.kinds.items ++ flat_map (missing_beside (view l.instance)) (map dependency_of (drop l.dependency-index l.dependencies))
+    ≡ flat_map (missing_beside (view l.instance)) (map dependency_of l.dependencies)

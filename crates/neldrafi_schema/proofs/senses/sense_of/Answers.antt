@@ -1,0 +1,52 @@
+use Rattle.std.proofs.Common.{◌≡◌}
+use Rattle.serde_json.specs.View.{members_view, view}
+use Rattle.neldrafi_schema.specs.declared.known.Known.TheVariants as known
+use Rattle.neldrafi_schema.specs.machine.Compiled.{path_of}
+use Rattle.neldrafi_schema.proofs.Cases.{assertion_left}
+use Rattle.neldrafi_schema.proofs.senses.sense_of.Goals as goal
+
+pub returns-in-Dialect-clause-leads : goal.returns-in-Dialect-clause-leads
+returns-in-Dialect-clause-leads g c = c.dialect_sense.ensures.leads (view c.args.places.now.document.now)
+
+pub returns-in-Reference-clause-sense : goal.returns-in-Reference-clause-sense
+returns-in-Reference-clause-sense g c = λ outcome.
+    let is : c.args.known ≡ known.Reference = c.in-Reference.is in
+    rw is (c.reference_sense.ensures.sense outcome)
+
+pub returns-in-AnyOf-clause-sense : goal.returns-in-AnyOf-clause-sense
+returns-in-AnyOf-clause-sense g c = λ outcome.
+    let is : c.args.known ≡ known.AnyOf = c.in-AnyOf.is in
+    rw is (c.list_sense-in-AnyOf.ensures.sense outcome)
+
+pub returns-in-OneOf-clause-sense : goal.returns-in-OneOf-clause-sense
+returns-in-OneOf-clause-sense g c = λ outcome.
+    let is : c.args.known ≡ known.OneOf = c.in-OneOf.is in
+    rw is (c.list_sense-in-OneOf.ensures.sense outcome)
+
+pub returns-in-Definitions-clause-sense : goal.returns-in-Definitions-clause-sense
+returns-in-Definitions-clause-sense g c = λ outcome.
+    let is : c.args.known ≡ known.Definitions = c.in-Definitions.is in
+    rw is (c.map_sense-in-Definitions.ensures.sense outcome)
+
+pub returns-in-AdditionalProperties-clause-sense : goal.returns-in-AdditionalProperties-clause-sense
+returns-in-AdditionalProperties-clause-sense g c = λ outcome.
+    let is : c.args.known ≡ known.AdditionalProperties = c.in-AdditionalProperties.is in
+    rw is (c.others_sense.ensures.sense outcome)
+
+pub returns-in-Items-clause-sense : goal.returns-in-Items-clause-sense
+returns-in-Items-clause-sense g c = λ outcome.
+    let is : c.args.known ≡ known.Items = c.in-Items.is in
+    rw is (c.items_sense.ensures.sense outcome)
+
+pub returns-in-AdditionalItems-clause-sense : goal.returns-in-AdditionalItems-clause-sense
+returns-in-AdditionalItems-clause-sense g c = λ outcome.
+    let is : c.args.known ≡ known.AdditionalItems = c.in-AdditionalItems.is in
+    rw is (c.additional_sense.ensures.sense outcome)
+
+pub returns-in_default-clause-sense : goal.returns-in_default-clause-sense
+returns-in_default-clause-sense g c = λ outcome.
+    c.assertion_sense.ensures.sense outcome (view c.args.places.now.document.now) (path_of c.args.member.now.path.now) (path_of c.args.member.now.at.now)
+    (assertion_left c.args.known c.in_default.not-Dialect c.in_default.not-Reference c.in_default.not-AllOf c.in_default.not-AnyOf c.in_default.not-OneOf c.in_default.not-Properties c.in_default.not-Definitions c.in_default.not-Dependencies c.in_default.not-PropertyNames c.in_default.not-Contains c.in_default.not-If c.in_default.not-Not c.in_default.not-Then c.in_default.not-Else c.in_default.not-AdditionalProperties c.in_default.not-Items c.in_default.not-AdditionalItems c.in_default.not-PatternProperties c.in_default.not-Text c.in_default.not-Unknown)
+
+pub returns-in_default-clause-leads : goal.returns-in_default-clause-leads
+returns-in_default-clause-leads g c = c.assertion_sense.ensures.leads (view c.args.places.now.document.now)

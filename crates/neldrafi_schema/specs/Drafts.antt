@@ -1,0 +1,128 @@
+-- The drafts: their names in `$schema`, and which keywords each has.
+use Rattle.std.specs.Prelude.{◌==◌, ℕ, List, ◌++◌, Bool, true, false, not, ◌&&◌, ◌||◌, Option, Some, None}
+use Rattle.std.specs.Prelude.{codes, if◌then◌else◌, is_some, option_and_then, unwrap_or}
+use Rattle.std.specs.Str.{bytes_eq}
+use Rattle.serde_json.specs.Data.{Data, Members}
+use Rattle.serde_json.specs.Find.{get, get_member, as_str}
+use Rattle.strkw_report.specs.declared.draft.Draft.{Draft}
+use Rattle.strkw_report.specs.declared.draft.Draft.TheVariants.{Draft4, Draft6, Draft7, Draft201909, Draft202012}
+use Rattle.strkw_keywords.specs.declared.keyword.Keyword.TheVariants as text
+use Rattle.strkw_keywords.specs.Keywords.{keyword_name}
+use Rattle.neldrafi_schema.specs.declared.limits.Limit.TheVariants as limit
+use Rattle.neldrafi_schema.specs.declared.limits.Size.TheVariants as size
+use Rattle.neldrafi_schema.specs.declared.known.Known.{Known}
+use Rattle.neldrafi_schema.specs.declared.known.Known.TheVariants as known
+
+-- ---- `$schema` (Core 2020-12, section 8.1.1)
+
+-- with or without an empty fragment
+abbrev pub is_uri : List ℕ → List ℕ → Bool
+is_uri uri text = bytes_eq text uri || bytes_eq text (uri ++ codes "#")
+
+abbrev pub draft_named : List ℕ → Option Draft
+draft_named text =
+    if is_uri (codes "http://json-schema.org/draft-04/schema") text then Some Draft4
+    else (if is_uri (codes "http://json-schema.org/draft-06/schema") text then Some Draft6
+    else (if is_uri (codes "http://json-schema.org/draft-07/schema") text then Some Draft7
+    else (if is_uri (codes "https://json-schema.org/draft/2019-09/schema") text
+    then Some Draft201909
+    else (if is_uri (codes "https://json-schema.org/draft/2020-12/schema") text
+    then Some Draft202012 else None))))
+
+-- the draft of a document: that of its `$schema`, or else this one
+abbrev pub draft_of : Draft → Data → Draft
+draft_of otherwise document = unwrap_or
+    (option_and_then draft_named (option_and_then as_str (get (codes "$schema") document))) otherwise
+
+-- ---- keywords
+
+abbrev pub reference_name : List ℕ
+reference_name = codes "$ref"
+
+-- the keyword of a name, in whichever draft
+abbrev pub named : List ℕ → Known
+named name =
+    if bytes_eq name (codes "$schema") then known.Dialect
+    else (if bytes_eq name reference_name then known.Reference
+    else (if bytes_eq name (codes "type") then known.Types
+    else (if bytes_eq name (codes "enum") then known.Enumeration
+    else (if bytes_eq name (codes "const") then known.Constant
+    else (if bytes_eq name (codes "multipleOf") then known.MultipleOf
+    else (if bytes_eq name (codes "minimum") then known.Limited limit.Minimum
+    else (if bytes_eq name (codes "exclusiveMinimum") then known.Limited limit.ExclusiveMinimum
+    else (if bytes_eq name (codes "maximum") then known.Limited limit.Maximum
+    else (if bytes_eq name (codes "exclusiveMaximum") then known.Limited limit.ExclusiveMaximum
+    else (if bytes_eq name (codes "minItems") then known.Sized size.MinItems
+    else (if bytes_eq name (codes "maxItems") then known.Sized size.MaxItems
+    else (if bytes_eq name (codes "minProperties") then known.Sized size.MinProperties
+    else (if bytes_eq name (codes "maxProperties") then known.Sized size.MaxProperties
+    else (if bytes_eq name (codes "uniqueItems") then known.UniqueItems
+    else (if bytes_eq name (codes "required") then known.Required
+    else (if bytes_eq name (codes "dependencies") then known.Dependencies
+    else (if bytes_eq name (codes "properties") then known.Properties
+    else (if bytes_eq name (codes "patternProperties") then known.PatternProperties
+    else (if bytes_eq name (codes "additionalProperties") then known.AdditionalProperties
+    else (if bytes_eq name (codes "propertyNames") then known.PropertyNames
+    else (if bytes_eq name (codes "items") then known.Items
+    else (if bytes_eq name (codes "additionalItems") then known.AdditionalItems
+    else (if bytes_eq name (codes "contains") then known.Contains
+    else (if bytes_eq name (codes "allOf") then known.AllOf
+    else (if bytes_eq name (codes "anyOf") then known.AnyOf
+    else (if bytes_eq name (codes "oneOf") then known.OneOf
+    else (if bytes_eq name (codes "not") then known.Not
+    else (if bytes_eq name (codes "if") then known.If
+    else (if bytes_eq name (codes "then") then known.Then
+    else (if bytes_eq name (codes "else") then known.Else
+    else (if bytes_eq name (codes "definitions") then known.Definitions
+    else (if bytes_eq name (keyword_name text.Format) then known.Text text.Format
+    else (if bytes_eq name (keyword_name text.MinLength) then known.Text text.MinLength
+    else (if bytes_eq name (keyword_name text.MaxLength) then known.Text text.MaxLength
+    else (if bytes_eq name (keyword_name text.Pattern) then known.Text text.Pattern
+    else known.Unknown)))))))))))))))))))))))))))))))))))
+
+-- whether a draft has a keyword, or has it only as later steps read it
+abbrev pub has_keyword : Draft → Known → Bool
+has_keyword Draft4 known.Constant = false
+has_keyword Draft4 known.PropertyNames = false
+has_keyword Draft4 known.Contains = false
+has_keyword Draft4 known.If = false
+has_keyword Draft4 known.Then = false
+has_keyword Draft4 known.Else = false
+has_keyword Draft6 known.If = false
+has_keyword Draft6 known.Then = false
+has_keyword Draft6 known.Else = false
+has_keyword Draft201909 known.Dependencies = false
+has_keyword Draft201909 known.Definitions = false
+has_keyword Draft201909 known.Contains = false
+has_keyword Draft202012 known.Dependencies = false
+has_keyword Draft202012 known.Definitions = false
+has_keyword Draft202012 known.Contains = false
+has_keyword Draft202012 known.Items = false
+has_keyword Draft202012 known.AdditionalItems = false
+has_keyword draft keyword = true
+
+-- drafts 4 to 7 ignore what stands beside a reference (draft 7, Core, section 8.3)
+abbrev pub ignores_siblings : Draft → Bool
+ignores_siblings Draft4 = true
+ignores_siblings Draft6 = true
+ignores_siblings Draft7 = true
+ignores_siblings later = false
+
+abbrev pub stays_beside_reference : Known → Bool
+stays_beside_reference known.Dialect = true
+stays_beside_reference known.Reference = true
+stays_beside_reference other = false
+
+-- whether a member of the object ms says something by a draft
+abbrev pub counts : Draft → Members → Known → Bool
+counts draft ms keyword = has_keyword draft keyword && (stays_beside_reference keyword
+    || not (ignores_siblings draft && is_some (get_member reference_name ms)))
+
+-- The keyword of a name among the members ms. A name that is not known says nothing (Core 2020-12,
+-- section 6.5).
+abbrev pub known_named : Draft → Members → List ℕ → Known
+known_named draft ms name = if counts draft ms (named name) then named name else known.Unknown
+
+abbrev pub is_draft_4 : Draft → Bool
+is_draft_4 Draft4 = true
+is_draft_4 later = false

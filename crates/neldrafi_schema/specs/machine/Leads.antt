@@ -1,0 +1,48 @@
+-- The schemas to which keywords lead, as they are found in a document.
+use Rattle.std.specs.Prelude.{◌≡◌, ◌&&◌, ◌==◌, ℕ, None, Option, Some, Bool, true, false, if◌then◌else◌}
+use Rattle.std.specs.List.{AllByRecursion}
+use Rattle.serde_json.specs.Data.{Data, object}
+use Rattle.serde_json.specs.Find.{as_bool}
+use Rattle.strkw_report.specs.declared.draft.Draft.{Draft}
+use Rattle.neldrafi_schema.specs.Drafts.{is_draft_4}
+use Rattle.serde_json.specs.View.{members_view, view}
+use Rattle.neldrafi_schema.specs.declared.known.Known.{Known}
+use Rattle.neldrafi_schema.specs.declared.known.Known.TheVariants as known
+use Rattle.neldrafi_schema.specs.declared.senses.Member.{Member}
+use Rattle.neldrafi_schema.specs.declared.senses.Sense.{Sense}
+use Rattle.neldrafi_schema.specs.declared.senses.Sense.TheVariants as sense
+use Rattle.neldrafi_schema.specs.Paths.{value_at}
+use Rattle.neldrafi_schema.specs.machine.Compiled.{path_of}
+use Rattle.neldrafi_schema.specs.machine.Places.{IsPlace}
+
+-- the object and the value are the document's at their paths
+pub record IsThere (document : Data) (m : Member) : Type 0 where
+  pub object : value_at (path_of m.path.now) document
+      ≡ Some (object (members_view m.object.now.entries))
+  pub value : value_at (path_of m.at.now) document ≡ Some (view m.value.now)
+
+-- and so is each schema to which a keyword leads
+abbrev pub AreLeads : {E : Type 0} → Data → Sense E → Type 0
+AreLeads document (sense.Says r leads) =
+    AllByRecursion (λ l. IsPlace document l.place) leads.items
+AreLeads document other = Unit {0}
+
+-- a boolean that is a schema
+abbrev pub boolean_of : Draft → Data → Option Bool
+boolean_of draft d = if is_draft_4 draft then None else as_bool d
+
+-- some of so many are needed, and there are none
+abbrev pub is_lacking : Bool → ℕ → Bool
+is_lacking needed count = needed && (count == 0)
+
+-- a keyword without schemas
+abbrev pub is_assertion : Known → Bool
+is_assertion known.Types = true
+is_assertion known.Enumeration = true
+is_assertion known.Constant = true
+is_assertion known.MultipleOf = true
+is_assertion (known.Limited l) = true
+is_assertion (known.Sized s) = true
+is_assertion known.UniqueItems = true
+is_assertion known.Required = true
+is_assertion other = false

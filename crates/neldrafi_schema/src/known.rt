@@ -1,0 +1,217 @@
+//! The keywords that are known, by name and by draft.
+
+ghost use Rattle.std.specs.Prelude.{◌≡◌, ◌++◌, codes};
+ghost use Rattle.serde_json.specs.View.{members_view, view};
+ghost use Rattle.neldrafi_schema.specs.Drafts.{counts, draft_named, draft_of, has_keyword, ignores_siblings, is_draft_4, is_uri, known_named, named, stays_beside_reference};
+
+use crate::limits::{Limit, Size};
+use serde_json::{Map, Value};
+use strkw_keywords::{Keyword as TextKeyword, member};
+use strkw_report::Draft;
+
+/// The keywords that are known.
+#[derive(Clone, Copy)]
+pub(crate) enum Known {
+    Dialect,
+    Reference,
+    Types,
+    Enumeration,
+    Constant,
+    MultipleOf,
+    Limited(Limit),
+    Sized(Size),
+    UniqueItems,
+    Required,
+    Dependencies,
+    Properties,
+    PatternProperties,
+    AdditionalProperties,
+    PropertyNames,
+    Items,
+    AdditionalItems,
+    Contains,
+    AllOf,
+    AnyOf,
+    OneOf,
+    Not,
+    If,
+    Then,
+    Else,
+    Definitions,
+    Text(TextKeyword),
+    Unknown,
+}
+
+impl Known {
+    /// The keyword of a name among the members of a schema object.
+    pub fn among(draft: Draft, object: &Map<String, Value>, name: &str) -> Known
+        ensures { result ≡ known_named draft (members_view object.now.entries) name.now }
+    {
+        let known = Known::named(name);
+        if known.counts(draft, object) {
+            known
+        } else {
+            Known::Unknown
+        }
+    }
+
+    // Whether it says something among the members of a schema object.
+    fn counts(self, draft: Draft, object: &Map<String, Value>) -> bool
+        ensures { result ≡ counts draft (members_view object.now.entries) self }
+    {
+        let is_ignored = ignores_siblings(draft) && member(object, "$ref").is_some();
+        self.is_of(draft) && (self.stays_beside_reference() || !is_ignored)
+    }
+
+    // The keyword of a name, in whichever draft.
+    fn named(name: &str) -> Known
+        ensures { result ≡ named name.now }
+    {
+        match name {
+            "$schema" => Known::Dialect,
+            "$ref" => Known::Reference,
+            "type" => Known::Types,
+            "enum" => Known::Enumeration,
+            "const" => Known::Constant,
+            "multipleOf" => Known::MultipleOf,
+            "minimum" => Known::Limited(Limit::Minimum),
+            "exclusiveMinimum" => Known::Limited(Limit::ExclusiveMinimum),
+            "maximum" => Known::Limited(Limit::Maximum),
+            "exclusiveMaximum" => Known::Limited(Limit::ExclusiveMaximum),
+            "minItems" => Known::Sized(Size::MinItems),
+            "maxItems" => Known::Sized(Size::MaxItems),
+            "minProperties" => Known::Sized(Size::MinProperties),
+            "maxProperties" => Known::Sized(Size::MaxProperties),
+            "uniqueItems" => Known::UniqueItems,
+            "required" => Known::Required,
+            "dependencies" => Known::Dependencies,
+            "properties" => Known::Properties,
+            "patternProperties" => Known::PatternProperties,
+            "additionalProperties" => Known::AdditionalProperties,
+            "propertyNames" => Known::PropertyNames,
+            "items" => Known::Items,
+            "additionalItems" => Known::AdditionalItems,
+            "contains" => Known::Contains,
+            "allOf" => Known::AllOf,
+            "anyOf" => Known::AnyOf,
+            "oneOf" => Known::OneOf,
+            "not" => Known::Not,
+            "if" => Known::If,
+            "then" => Known::Then,
+            "else" => Known::Else,
+            "definitions" => Known::Definitions,
+            "format" => Known::Text(TextKeyword::Format),
+            "minLength" => Known::Text(TextKeyword::MinLength),
+            "maxLength" => Known::Text(TextKeyword::MaxLength),
+            "pattern" => Known::Text(TextKeyword::Pattern),
+            _ => Known::Unknown,
+        }
+    }
+
+    fn is_of(self, draft: Draft) -> bool
+        ensures { result ≡ has_keyword draft self }
+    {
+        match draft {
+            Draft::Draft4 => !matches!(
+                self,
+                Known::Constant
+                    | Known::PropertyNames
+                    | Known::Contains
+                    | Known::If
+                    | Known::Then
+                    | Known::Else
+            ),
+            Draft::Draft6 => !matches!(self, Known::If | Known::Then | Known::Else),
+            Draft::Draft7 => true,
+            Draft::Draft201909 => {
+                !matches!(
+                    self,
+                    Known::Dependencies | Known::Definitions | Known::Contains
+                )
+            }
+            Draft::Draft202012 => !matches!(
+                self,
+                Known::Dependencies
+                    | Known::Definitions
+                    | Known::Contains
+                    | Known::Items
+                    | Known::AdditionalItems
+            ),
+        }
+    }
+
+    fn stays_beside_reference(self) -> bool
+        ensures { result ≡ stays_beside_reference self }
+    {
+        matches!(self, Known::Dialect | Known::Reference)
+    }
+}
+
+// Whether a draft ignores what stands beside a reference.
+fn ignores_siblings(draft: Draft) -> bool
+    ensures { result ≡ ignores_siblings draft }
+{
+    matches!(draft, Draft::Draft4 | Draft::Draft6 | Draft::Draft7)
+}
+
+pub(crate) fn is_draft_4(draft: Draft) -> bool
+    ensures { result ≡ is_draft_4 draft }
+{
+    matches!(draft, Draft::Draft4)
+}
+
+/// The draft of a document: that of its `$schema`, or else this one.
+pub(crate) fn draft_of(otherwise: Draft, document: &Value) -> Draft
+    ensures { result ≡ draft_of otherwise (view document.now) }
+{
+    match document.get("$schema") {
+        Some(Value::String(uri)) => draft_named(uri).unwrap_or(otherwise),
+        _ => otherwise,
+    }
+}
+
+/// The draft that a text of `$schema` names.
+pub(crate) fn draft_named(text: &str) -> Option<Draft>
+    ensures { result ≡ draft_named text.now }
+{
+    if is_uri(
+        "http://json-schema.org/draft-04/schema",
+        "http://json-schema.org/draft-04/schema#",
+        text,
+    ) {
+        Some(Draft::Draft4)
+    } else if is_uri(
+        "http://json-schema.org/draft-06/schema",
+        "http://json-schema.org/draft-06/schema#",
+        text,
+    ) {
+        Some(Draft::Draft6)
+    } else if is_uri(
+        "http://json-schema.org/draft-07/schema",
+        "http://json-schema.org/draft-07/schema#",
+        text,
+    ) {
+        Some(Draft::Draft7)
+    } else if is_uri(
+        "https://json-schema.org/draft/2019-09/schema",
+        "https://json-schema.org/draft/2019-09/schema#",
+        text,
+    ) {
+        Some(Draft::Draft201909)
+    } else if is_uri(
+        "https://json-schema.org/draft/2020-12/schema",
+        "https://json-schema.org/draft/2020-12/schema#",
+        text,
+    ) {
+        Some(Draft::Draft202012)
+    } else {
+        None
+    }
+}
+
+// Whether a text is a URI, or the URI with an empty fragment.
+fn is_uri(uri: &str, with_fragment: &str, text: &str) -> bool
+    ensures { with_fragment.now ≡ uri.now ++ codes "#" → result ≡ is_uri uri.now text.now }
+{
+    text == uri || text == with_fragment
+}

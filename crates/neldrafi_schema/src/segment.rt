@@ -1,0 +1,69 @@
+//! Steps into a value.
+
+ghost use Rattle.std.specs.Prelude.{◌≡◌, IfOk, option_map};
+ghost use Rattle.serde_json.specs.View.{view};
+ghost use Rattle.strkw_report.specs.Paths.{path_below};
+ghost use Rattle.neldrafi_schema.specs.Paths.{child, segment_text};
+ghost use Rattle.neldrafi_schema.specs.machine.Compiled.{segment_of, step_of};
+
+use serde_json::Value;
+use std::alloc::{AllocError, Global};
+use strkw_report::Location;
+
+/// The key of a member, or the place of an item.
+#[derive(PartialEq, Eq, PartialOrd, Ord, Drop)]
+pub(crate) enum Segment {
+    Key(String),
+    Place(usize),
+}
+
+/// The same, without memory of its own.
+#[derive(Clone, Copy)]
+pub(crate) enum Step<'a> {
+    Key(&'a str),
+    Place(usize),
+}
+
+impl Segment {
+    pub fn as_step(&self) -> Step<'_>
+        ensures { step_of result ≡ segment_of self.now }
+    {
+        match self {
+            Segment::Key(name) => Step::Key(name.as_str()),
+            Segment::Place(place) => Step::Place(*place),
+        }
+    }
+}
+
+impl<'a> Step<'a> {
+    pub fn to_segment(self, alloc: Global) -> Result<Segment, AllocError>
+        ensures { IfOk result (λ segment. segment_of segment ≡ step_of self.entry) }
+    {
+        Ok(match self {
+            Step::Key(name) => Segment::Key(String::from_str(alloc, name)?),
+            Step::Place(place) => Segment::Place(place),
+        })
+    }
+
+    /// The value there.
+    pub fn child<'v>(self, value: &'v Value) -> Option<&'v Value>
+        ensures { option_map (λ v. view v.now) result
+            ≡ child (step_of self.entry) (view value.now) }
+    {
+        match self {
+            Step::Key(name) => value.get(name),
+            Step::Place(place) => value.get(place),
+        }
+    }
+
+    /// The location of what is there.
+    pub fn below(self, alloc: Global, location: &Location) -> Result<Location, AllocError>
+        ensures { IfOk result (λ l. l
+            ≡ path_below location.now (segment_text (step_of self.entry))) }
+    {
+        match self {
+            Step::Key(name) => location.join(name),
+            Step::Place(place) => location.join(format!(in alloc; "{place}")?.as_str()),
+        }
+    }
+}

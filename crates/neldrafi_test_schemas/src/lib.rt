@@ -1,0 +1,5 @@
+//! The tests of whole schemas.
+#![tactic(auto)]
+
+#[cfg(test)]
+mod tests;

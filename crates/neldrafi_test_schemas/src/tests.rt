@@ -1,0 +1,14 @@
+//! Which errors instances have, and why documents are refused. With ample memory each test passes;
+//! `tools/refusals.py` runs those whose names end in `_under_refusal` with each growth refused in turn too, when they
+//! may also end as out of memory.
+
+mod answers;
+mod basics;
+mod combined;
+mod depth;
+mod drafts;
+mod items;
+mod refusals;
+mod sizes;
+mod types;
+mod values;

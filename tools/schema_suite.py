@@ -1,0 +1,166 @@
+#!/usr/bin/env python3
+"""Asks `neldrafi_schema` the required cases of the public JSON Schema test suite.
+
+    python3 tools/schema_suite.py                  the suite of Debian's package libtest-json-schema-acceptance-perl
+    python3 tools/schema_suite.py FOLDER           another copy: the folder that has `draft7`, `draft6`, ..
+    python3 tools/schema_suite.py --told           each case with another answer, too
+
+A program without a proof (`tools/unproved.py`) answers: it compiles each schema document by its draft, with the engine
+`strkw_ecma`, and says of each instance whether it is valid. A file with cases of another answer, or of documents that
+are refused, is told with their number, but where `KNOWN` has that number. The status is 1 if a file is
+told. It is no part of the gate.
+"""
+import argparse
+import json
+import subprocess
+import sys
+import tempfile
+from pathlib import Path
+
+import unproved
+
+TOP = Path(__file__).resolve().parent.parent
+SUITE = "/usr/share/perl5/auto/share/dist/Test-JSON-Schema-Acceptance/tests"
+DRAFTS = {"draft4": 4, "draft6": 6, "draft7": 7}
+PROGRAM = "schema_answers"
+USES = f"{PROGRAM}: neldrafi_schema strkw_ecma strkw_report serde_json\n"
+MAIN = """//! Answers lines `[DRAFT, SCHEMA, [INSTANCE, ..]]`, each by one line.
+#![tactic(auto)]
+
+use neldrafi_schema::{Config, Schema, SchemaErrorKind};
+use serde_json::Value;
+use std::alloc::{AllocError, Global};
+use std::io::{BufRead, BufReader};
+use std::process::ExitCode;
+use strkw_ecma::EcmaPatterns;
+use strkw_report::draft_in;
+
+fn name_of(kind: &SchemaErrorKind) -> &'static str {
+    match kind {
+        SchemaErrorKind::WrongType => "WrongType",
+        SchemaErrorKind::UnresolvedReference => "UnresolvedReference",
+        SchemaErrorKind::CircularReference => "CircularReference",
+        SchemaErrorKind::UnknownDialect => "UnknownDialect",
+        SchemaErrorKind::Text(_) => "Text",
+        SchemaErrorKind::Memory => "Memory",
+    }
+}
+
+fn answer(alloc: Global, line: &str) -> Result<String, AllocError> {
+    let Ok(group) = Value::from_str(alloc, line) else {
+        return String::from_str(alloc, "no JSON");
+    };
+    let mut config = Config::new(&EcmaPatterns);
+    config.draft = match group.get(0) {
+        Some(draft) => draft_in(draft),
+        None => None,
+    };
+    let (Some(document), Some(Value::Array(instances))) = (group.get(1), group.get(2)) else {
+        return String::from_str(alloc, "no group");
+    };
+    let schema = match Schema::compile(alloc, document, &config) {
+        Ok(schema) => schema,
+        Err(error) => {
+            let (kind, place) = (name_of(&error.kind), error.location.as_str());
+            return format!(in alloc; "{kind} at '{place}'");
+        }
+    };
+    let mut answers = String::new(alloc);
+    for instance in instances {
+        let mut errors = Vec::new(alloc);
+        schema.collect_errors(alloc, instance, &mut errors)?;
+        let is_valid = schema.is_valid(alloc, instance)?;
+        answers.push_str(match (is_valid, errors.is_empty()) {
+            (true, true) => "1",
+            (false, false) => "0",
+            _ => "?",
+        })?;
+    }
+    Ok(answers)
+}
+
+fn main(rt: HostRuntime) -> ExitCode {
+    let Ok(reader) = BufReader::new(rt.alloc(), rt.reader()) else {
+        return ExitCode::FAILURE;
+    };
+    for line in reader.lines(rt.alloc()) {
+        let Ok(line) = line else {
+            return ExitCode::FAILURE;
+        };
+        let Ok(told) = answer(rt.alloc(), line.as_str()) else {
+            return ExitCode::FAILURE;
+        };
+        let _ = rt.println(told.as_str());
+    }
+    ExitCode::SUCCESS
+}
+"""
+# Files with cases that need references by URI, or documents of other URIs, with the number of such cases.
+KNOWN = {
+    "draft4/definitions.json": 2, "draft4/id.json": 3, "draft4/ref.json": 12, "draft4/refRemote.json": 17,
+    "draft6/definitions.json": 2, "draft6/id.json": 3, "draft6/ref.json": 24, "draft6/refRemote.json": 21,
+    "draft6/unknownKeyword.json": 3, "draft7/definitions.json": 2, "draft7/id.json": 3, "draft7/ref.json": 32,
+    "draft7/refRemote.json": 21, "draft7/unknownKeyword.json": 3,
+}
+
+
+def built(folder):
+    """The path of the program, built over the crates of the repository."""
+    crates = folder / "crates"
+    crates.mkdir()
+    for crate in (TOP / "crates").iterdir():
+        (crates / crate.name).symlink_to(crate)
+    (crates / PROGRAM / "src").mkdir(parents=True)
+    (crates / PROGRAM / "src" / "main.rt").write_text(MAIN)
+    (folder / "crates.txt").write_text((TOP / "crates.txt").read_text() + USES)
+    return unproved.build(PROGRAM, crates)
+
+
+def groups_in(suite):
+    """Each group of required cases: its file, its draft, its schema document, and its tests."""
+    for folder, draft in DRAFTS.items():
+        for path in sorted((suite / folder).glob("*.json")):
+            for group in json.loads(path.read_text("utf-8")):
+                yield f"{folder}/{path.name}", draft, group
+
+
+def answers(program, groups):
+    """The line that answers each group."""
+    lines = "".join(json.dumps([draft, group["schema"], [test["data"] for test in group["tests"]]]) + "\n"
+                    for _, draft, group in groups)
+    run = subprocess.run([program], input=lines, capture_output=True, text=True, check=True)
+    return run.stdout.splitlines()
+
+
+def main():
+    """Prints how many cases each draft has, and the files with other answers."""
+    parser = argparse.ArgumentParser(description=__doc__.split("\n")[0])
+    parser.add_argument("suite", nargs="?", type=Path, default=Path(SUITE))
+    parser.add_argument("--told", action="store_true", help="tell each case with another answer")
+    wanted = parser.parse_args()
+    if not (wanted.suite / "draft7").is_dir():
+        raise SystemExit(f"{wanted.suite} has no draft7: install libtest-json-schema-acceptance-perl, or name a folder")
+    groups = list(groups_in(wanted.suite))
+    with tempfile.TemporaryDirectory() as folder:
+        lines = answers(built(Path(folder)), groups)
+    cases, others = dict.fromkeys(DRAFTS.values(), 0), {}
+    for (file, draft, group), line in zip(groups, lines, strict=True):
+        told = line if len(line) == len(group["tests"]) and set(line) <= set("01?") else "-" * len(group["tests"])
+        cases[draft] += len(told)
+        for test, given in zip(group["tests"], told):
+            if given == str(int(test["valid"])):
+                continue
+            others[file] = others.get(file, 0) + 1
+            if wanted.told:
+                print(f"{file}: {group['description']}: {test['description']}: {line}")
+    for file in sorted({*others, *KNOWN}):
+        if others.get(file, 0) != KNOWN.get(file, 0):
+            print(f"{file}: {others.get(file, 0)} cases with another answer, {KNOWN.get(file, 0)} are listed")
+    for draft, number in cases.items():
+        other = sum(count for file, count in others.items() if file.startswith(f"draft{draft}/"))
+        print(f"draft {draft}: {number} cases, {other} with another answer")
+    return 1 if others != KNOWN else 0
+
+
+if __name__ == "__main__":
+    sys.exit(main())
