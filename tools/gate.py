@@ -55,6 +55,7 @@ STEPS = [
     Step("proofs", PROOFS, ("rt", "ci")),
     script("rows", ANSWERS, "tools/rows", "--kept"),
     script("programs", ANSWERS, "tools/programs.py"),
+    script("suite", ANSWERS, "tools/schema_suite.py", "--if-there"),
     script("refusals", CALLS, "tools/refusals.py"),
     script("sizes", ANSWERS, "tools/sizes.py", "--bounded"),
     Step("library", ANSWERS, ("sh", "-c", f"bindings/build --since {BEGUN} && bindings/test")),

@@ -8,10 +8,6 @@ use Rattle.neldrafi_schema.specs.machine.Found.{Appended, error_seen, errors_of}
 pub nothing_appended : (P : List Error → Type 0) (old : List ValidationError) → P [] → Appended P old old
 nothing_appended P old p = record { more = []; longer = sym (append-nil old); said = p }
 
-pub one_appended : (P : List Error → Type 0) (old new : List ValidationError) (e : ValidationError) → new ≡ old ++ e ∷ [] → P (error_seen e ∷ [])
-    → Appended P old new
-one_appended P old new e longer p = record { more = e ∷ []; longer = longer; said = p }
-
 pub appended_alike : (P Q : List Error → Type 0) (old new : List ValidationError) → ((es : List Error) → P es → Q es) → Appended P old new → Appended Q old new
 appended_alike P Q old new same a = record { more = a.more; longer = a.longer; said = same (errors_of a.more) a.said }
 

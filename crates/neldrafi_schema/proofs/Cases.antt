@@ -7,7 +7,10 @@ use Rattle.serde_json.specs.Find.{as_array, as_str}
 use Rattle.serde_json.specs.View.{items_view, view}
 use Rattle.serde_json.specs.declared.value.Value.{Value}
 use Rattle.strkw_keywords.specs.declared.keyword.Keyword.{Keyword as TextKeyword}
+use Rattle.strkw_report.specs.declared.draft.Draft.{Draft}
+use Rattle.strkw_report.specs.declared.draft.Draft.TheVariants.{Draft4, Draft6, Draft7, Draft201909, Draft202012}
 use Rattle.neldrafi_schema.specs.declared.known.Known.{Known}
+use Rattle.neldrafi_schema.specs.declared.node.Part.{Part}
 use Rattle.neldrafi_schema.specs.declared.known.Known.TheVariants as known
 use Rattle.strkw_keywords.specs.Object.{Settings}
 use Rattle.neldrafi_schema.specs.Paths.{Path, key}
@@ -52,45 +55,65 @@ pub list_given : (rule : Rule) (at : Path) (vs : List Value) (leads : List Lead)
 list_given rule at [] leads o e some are = absurd (some refl)
 list_given rule at (v ∷ vs) leads o e some are = rw (e, are) refl
 
-pub placed_items : (at : Path) (o : Option Items) → is_some o ≡ true → list_sense placed at o ≡ items_sense at o
-placed_items at None e = absurd (false≢true e)
-placed_items at (Some ds) e = refl
+pub placed_items : (draft : Draft) (at : Path) (o : Option Items) → (draft ≡ Draft202012 → ⊥) → is_some o ≡ true → list_sense placed at o ≡ items_sense draft at o
+placed_items Draft202012 at o n e = absurd (n refl)
+placed_items Draft4 at None n e = absurd (false≢true e)
+placed_items Draft4 at (Some ds) n e = refl
+placed_items Draft6 at None n e = absurd (false≢true e)
+placed_items Draft6 at (Some ds) n e = refl
+placed_items Draft7 at None n e = absurd (false≢true e)
+placed_items Draft7 at (Some ds) n e = refl
+placed_items Draft201909 at None n e = absurd (false≢true e)
+placed_items Draft201909 at (Some ds) n e = refl
 
-pub same_items : (at : Path) (o : Option Items) → is_some o ≡ false → says other_items (lead_to at) ≡ items_sense at o
-same_items at None e = refl
-same_items at (Some ds) e = absurd (false≢true (sym e))
+pub same_items : (draft : Draft) (at : Path) (o : Option Items) → (draft ≡ Draft202012 → ⊥) → is_some o ≡ false → says other_items (lead_to at) ≡ items_sense draft at o
+same_items Draft202012 at o n e = absurd (n refl)
+same_items Draft4 at None n e = refl
+same_items Draft4 at (Some ds) n e = absurd (false≢true (sym e))
+same_items Draft6 at None n e = refl
+same_items Draft6 at (Some ds) n e = absurd (false≢true (sym e))
+same_items Draft7 at None n e = refl
+same_items Draft7 at (Some ds) n e = absurd (false≢true (sym e))
+same_items Draft201909 at None n e = refl
+same_items Draft201909 at (Some ds) n e = absurd (false≢true (sym e))
 
 -- ---- a keyword that is none of these has no schemas
 
-pub assertion_left : (kw : Known) → (kw ≡ known.Dialect → ⊥) → (kw ≡ known.Reference → ⊥) → (kw ≡ known.AllOf → ⊥) → (kw ≡ known.AnyOf → ⊥) → (kw ≡ known.OneOf → ⊥) → (kw ≡ known.Properties → ⊥) → (kw ≡ known.Definitions → ⊥) → (kw ≡ known.Dependencies → ⊥) → (kw ≡ known.PropertyNames → ⊥) → (kw ≡ known.Contains → ⊥) → (kw ≡ known.If → ⊥) → (kw ≡ known.Not → ⊥) → (kw ≡ known.Then → ⊥) → (kw ≡ known.Else → ⊥) → (kw ≡ known.AdditionalProperties → ⊥) → (kw ≡ known.Items → ⊥) → (kw ≡ known.AdditionalItems → ⊥) → (kw ≡ known.PatternProperties → ⊥) → ((text : TextKeyword) → kw ≡ known.Text text → ⊥) → (kw ≡ known.Unknown → ⊥) → is_assertion kw ≡ true
-assertion_left known.Dialect not_dialect _ _ _ _ _ _ _ _ _ _ _ _ _ _ _ _ _ _ _ = absurd (not_dialect refl)
-assertion_left known.Reference _ not_reference _ _ _ _ _ _ _ _ _ _ _ _ _ _ _ _ _ _ = absurd (not_reference refl)
-assertion_left known.AllOf _ _ not_allof _ _ _ _ _ _ _ _ _ _ _ _ _ _ _ _ _ = absurd (not_allof refl)
-assertion_left known.AnyOf _ _ _ not_anyof _ _ _ _ _ _ _ _ _ _ _ _ _ _ _ _ = absurd (not_anyof refl)
-assertion_left known.OneOf _ _ _ _ not_oneof _ _ _ _ _ _ _ _ _ _ _ _ _ _ _ = absurd (not_oneof refl)
-assertion_left known.Properties _ _ _ _ _ not_properties _ _ _ _ _ _ _ _ _ _ _ _ _ _ = absurd (not_properties refl)
-assertion_left known.Definitions _ _ _ _ _ _ not_definitions _ _ _ _ _ _ _ _ _ _ _ _ _ = absurd (not_definitions refl)
-assertion_left known.Dependencies _ _ _ _ _ _ _ not_dependencies _ _ _ _ _ _ _ _ _ _ _ _ = absurd (not_dependencies refl)
-assertion_left known.PropertyNames _ _ _ _ _ _ _ _ not_propertynames _ _ _ _ _ _ _ _ _ _ _ = absurd (not_propertynames refl)
-assertion_left known.Contains _ _ _ _ _ _ _ _ _ not_contains _ _ _ _ _ _ _ _ _ _ = absurd (not_contains refl)
-assertion_left known.If _ _ _ _ _ _ _ _ _ _ not_if _ _ _ _ _ _ _ _ _ = absurd (not_if refl)
-assertion_left known.Not _ _ _ _ _ _ _ _ _ _ _ not_not _ _ _ _ _ _ _ _ = absurd (not_not refl)
-assertion_left known.Then _ _ _ _ _ _ _ _ _ _ _ _ not_then _ _ _ _ _ _ _ = absurd (not_then refl)
-assertion_left known.Else _ _ _ _ _ _ _ _ _ _ _ _ _ not_else _ _ _ _ _ _ = absurd (not_else refl)
-assertion_left known.AdditionalProperties _ _ _ _ _ _ _ _ _ _ _ _ _ _ not_additionalproperties _ _ _ _ _ = absurd (not_additionalproperties refl)
-assertion_left known.Items _ _ _ _ _ _ _ _ _ _ _ _ _ _ _ not_items _ _ _ _ = absurd (not_items refl)
-assertion_left known.AdditionalItems _ _ _ _ _ _ _ _ _ _ _ _ _ _ _ _ not_additionalitems _ _ _ = absurd (not_additionalitems refl)
-assertion_left known.PatternProperties _ _ _ _ _ _ _ _ _ _ _ _ _ _ _ _ _ not_patternproperties _ _ = absurd (not_patternproperties refl)
-assertion_left (known.Text k) _ _ _ _ _ _ _ _ _ _ _ _ _ _ _ _ _ _ not_text _ = absurd (not_text k refl)
-assertion_left known.Unknown _ _ _ _ _ _ _ _ _ _ _ _ _ _ _ _ _ _ _ not_unknown = absurd (not_unknown refl)
-assertion_left known.Types _ _ _ _ _ _ _ _ _ _ _ _ _ _ _ _ _ _ _ _ = refl
-assertion_left known.Enumeration _ _ _ _ _ _ _ _ _ _ _ _ _ _ _ _ _ _ _ _ = refl
-assertion_left known.Constant _ _ _ _ _ _ _ _ _ _ _ _ _ _ _ _ _ _ _ _ = refl
-assertion_left known.MultipleOf _ _ _ _ _ _ _ _ _ _ _ _ _ _ _ _ _ _ _ _ = refl
-assertion_left (known.Limited l) _ _ _ _ _ _ _ _ _ _ _ _ _ _ _ _ _ _ _ _ = refl
-assertion_left (known.Sized size) _ _ _ _ _ _ _ _ _ _ _ _ _ _ _ _ _ _ _ _ = refl
-assertion_left known.UniqueItems _ _ _ _ _ _ _ _ _ _ _ _ _ _ _ _ _ _ _ _ = refl
-assertion_left known.Required _ _ _ _ _ _ _ _ _ _ _ _ _ _ _ _ _ _ _ _ = refl
+pub assertion_left : (kw : Known) → (kw ≡ known.Dialect → ⊥) → (kw ≡ known.Reference → ⊥) → (kw ≡ known.AllOf → ⊥) → (kw ≡ known.AnyOf → ⊥) → (kw ≡ known.OneOf → ⊥) → (kw ≡ known.Properties → ⊥) → (kw ≡ known.Definitions → ⊥) → (kw ≡ known.Defs → ⊥) → (kw ≡ known.Dependencies → ⊥) → (kw ≡ known.PropertyNames → ⊥) → (kw ≡ known.Contains → ⊥) → (kw ≡ known.DependentSchemas → ⊥) → (kw ≡ known.PrefixItems → ⊥) → ((part : Part) → kw ≡ known.Unevaluated part → ⊥) → (kw ≡ known.If → ⊥) → (kw ≡ known.Not → ⊥) → (kw ≡ known.Then → ⊥) → (kw ≡ known.Else → ⊥) → (kw ≡ known.AdditionalProperties → ⊥) → (kw ≡ known.Items → ⊥) → (kw ≡ known.AdditionalItems → ⊥) → (kw ≡ known.PatternProperties → ⊥) → ((text : TextKeyword) → kw ≡ known.Text text → ⊥) → (kw ≡ known.Unknown → ⊥) → is_assertion kw ≡ true
+assertion_left known.Dialect not_dialect _ _ _ _ _ _ _ _ _ _ _ _ _ _ _ _ _ _ _ _ _ _ _ = absurd (not_dialect refl)
+assertion_left known.Reference _ not_reference _ _ _ _ _ _ _ _ _ _ _ _ _ _ _ _ _ _ _ _ _ _ = absurd (not_reference refl)
+assertion_left known.AllOf _ _ not_allof _ _ _ _ _ _ _ _ _ _ _ _ _ _ _ _ _ _ _ _ _ = absurd (not_allof refl)
+assertion_left known.AnyOf _ _ _ not_anyof _ _ _ _ _ _ _ _ _ _ _ _ _ _ _ _ _ _ _ _ = absurd (not_anyof refl)
+assertion_left known.OneOf _ _ _ _ not_oneof _ _ _ _ _ _ _ _ _ _ _ _ _ _ _ _ _ _ _ = absurd (not_oneof refl)
+assertion_left known.Properties _ _ _ _ _ not_properties _ _ _ _ _ _ _ _ _ _ _ _ _ _ _ _ _ _ = absurd (not_properties refl)
+assertion_left known.Definitions _ _ _ _ _ _ not_definitions _ _ _ _ _ _ _ _ _ _ _ _ _ _ _ _ _ = absurd (not_definitions refl)
+assertion_left known.Defs _ _ _ _ _ _ _ not_defs _ _ _ _ _ _ _ _ _ _ _ _ _ _ _ _ = absurd (not_defs refl)
+assertion_left known.Dependencies _ _ _ _ _ _ _ _ not_dependencies _ _ _ _ _ _ _ _ _ _ _ _ _ _ _ = absurd (not_dependencies refl)
+assertion_left known.PropertyNames _ _ _ _ _ _ _ _ _ not_propertynames _ _ _ _ _ _ _ _ _ _ _ _ _ _ = absurd (not_propertynames refl)
+assertion_left known.Contains _ _ _ _ _ _ _ _ _ _ not_contains _ _ _ _ _ _ _ _ _ _ _ _ _ = absurd (not_contains refl)
+assertion_left known.DependentSchemas _ _ _ _ _ _ _ _ _ _ _ not_dependentschemas _ _ _ _ _ _ _ _ _ _ _ _ = absurd (not_dependentschemas refl)
+assertion_left known.PrefixItems _ _ _ _ _ _ _ _ _ _ _ _ not_prefixitems _ _ _ _ _ _ _ _ _ _ _ = absurd (not_prefixitems refl)
+assertion_left (known.Unevaluated k) _ _ _ _ _ _ _ _ _ _ _ _ _ not_unevaluated _ _ _ _ _ _ _ _ _ _ = absurd (not_unevaluated k refl)
+assertion_left known.If _ _ _ _ _ _ _ _ _ _ _ _ _ _ not_if _ _ _ _ _ _ _ _ _ = absurd (not_if refl)
+assertion_left known.Not _ _ _ _ _ _ _ _ _ _ _ _ _ _ _ not_not _ _ _ _ _ _ _ _ = absurd (not_not refl)
+assertion_left known.Then _ _ _ _ _ _ _ _ _ _ _ _ _ _ _ _ not_then _ _ _ _ _ _ _ = absurd (not_then refl)
+assertion_left known.Else _ _ _ _ _ _ _ _ _ _ _ _ _ _ _ _ _ not_else _ _ _ _ _ _ = absurd (not_else refl)
+assertion_left known.AdditionalProperties _ _ _ _ _ _ _ _ _ _ _ _ _ _ _ _ _ _ not_additionalproperties _ _ _ _ _ = absurd (not_additionalproperties refl)
+assertion_left known.Items _ _ _ _ _ _ _ _ _ _ _ _ _ _ _ _ _ _ _ not_items _ _ _ _ = absurd (not_items refl)
+assertion_left known.AdditionalItems _ _ _ _ _ _ _ _ _ _ _ _ _ _ _ _ _ _ _ _ not_additionalitems _ _ _ = absurd (not_additionalitems refl)
+assertion_left known.PatternProperties _ _ _ _ _ _ _ _ _ _ _ _ _ _ _ _ _ _ _ _ _ not_patternproperties _ _ = absurd (not_patternproperties refl)
+assertion_left (known.Text k) _ _ _ _ _ _ _ _ _ _ _ _ _ _ _ _ _ _ _ _ _ _ not_text _ = absurd (not_text k refl)
+assertion_left known.Unknown _ _ _ _ _ _ _ _ _ _ _ _ _ _ _ _ _ _ _ _ _ _ _ not_unknown = absurd (not_unknown refl)
+assertion_left known.Types _ _ _ _ _ _ _ _ _ _ _ _ _ _ _ _ _ _ _ _ _ _ _ _ = refl
+assertion_left known.Enumeration _ _ _ _ _ _ _ _ _ _ _ _ _ _ _ _ _ _ _ _ _ _ _ _ = refl
+assertion_left known.Constant _ _ _ _ _ _ _ _ _ _ _ _ _ _ _ _ _ _ _ _ _ _ _ _ = refl
+assertion_left known.MultipleOf _ _ _ _ _ _ _ _ _ _ _ _ _ _ _ _ _ _ _ _ _ _ _ _ = refl
+assertion_left (known.Limited l) _ _ _ _ _ _ _ _ _ _ _ _ _ _ _ _ _ _ _ _ _ _ _ _ = refl
+assertion_left (known.Sized size) _ _ _ _ _ _ _ _ _ _ _ _ _ _ _ _ _ _ _ _ _ _ _ _ = refl
+assertion_left known.UniqueItems _ _ _ _ _ _ _ _ _ _ _ _ _ _ _ _ _ _ _ _ _ _ _ _ = refl
+assertion_left known.Required _ _ _ _ _ _ _ _ _ _ _ _ _ _ _ _ _ _ _ _ _ _ _ _ = refl
+assertion_left known.DependentRequired _ _ _ _ _ _ _ _ _ _ _ _ _ _ _ _ _ _ _ _ _ _ _ _ = refl
+assertion_left known.ContainsCount _ _ _ _ _ _ _ _ _ _ _ _ _ _ _ _ _ _ _ _ _ _ _ _ = refl
 
 -- any keyword but two says what its sense does
 pub known_else : (numbered : Numbered) (s : Settings) (document : Data) (path : Path) (ms : Members) (name : List ℕ) (d : Data) (ks : List Keyword) (kw : Known)
@@ -122,5 +145,11 @@ known_else numbered s document path ms name d ks known.If patterns text stated =
 known_else numbered s document path ms name d ks known.Then patterns text stated = stated
 known_else numbered s document path ms name d ks known.Else patterns text stated = stated
 known_else numbered s document path ms name d ks known.Definitions patterns text stated = stated
+known_else numbered s document path ms name d ks known.DependentRequired patterns text stated = stated
+known_else numbered s document path ms name d ks known.DependentSchemas patterns text stated = stated
+known_else numbered s document path ms name d ks known.PrefixItems patterns text stated = stated
+known_else numbered s document path ms name d ks known.ContainsCount patterns text stated = stated
+known_else numbered s document path ms name d ks (known.Unevaluated p) patterns text stated = stated
+known_else numbered s document path ms name d ks known.Defs patterns text stated = stated
 known_else numbered s document path ms name d ks (known.Text k) patterns text stated = absurd (text k refl)
 known_else numbered s document path ms name d ks known.Unknown patterns text stated = stated

@@ -6,6 +6,7 @@ use Rattle.serde_json.specs.Data.{Data, Items, Members, no_items, item, no_membe
 use Rattle.serde_json.specs.Find.{as_array, as_bool, as_number, as_object, as_str, get_member}
 use Rattle.std.proofs.lemmas.Bool.{false≢true}
 use Rattle.strkw_report.specs.declared.draft.Draft.{Draft}
+use Rattle.strkw_report.specs.declared.draft.Draft.TheVariants.{Draft4, Draft6, Draft7, Draft201909, Draft202012}
 use Rattle.strkw_pattern.specs.declared.engine.Outcome.{Outcome}
 use Rattle.strkw_keywords.specs.Meanings.{Lists}
 use Rattle.neldrafi_schema.specs.declared.node.Rule.{Rule as CompiledRule}
@@ -19,16 +20,16 @@ use Rattle.neldrafi_schema.specs.declared.known.Known.{Known}
 use Rattle.neldrafi_schema.specs.declared.known.Known.TheVariants as known
 use Rattle.neldrafi_schema.specs.declared.limits.Limit.{Limit}
 use Rattle.neldrafi_schema.specs.declared.limits.Limit.TheVariants as limit
-use Rattle.neldrafi_schema.specs.Drafts.{draft_named, is_draft_4}
+use Rattle.neldrafi_schema.specs.Drafts.{draft_named, has_unevaluated, is_draft_4}
 use Rattle.neldrafi_schema.specs.Numbers.{size_in}
 use Rattle.neldrafi_schema.specs.Paths.{Path, Segment, key, place}
 use Rattle.neldrafi_schema.specs.References.{schema_referred}
 use Rattle.neldrafi_schema.specs.Refusals.{is_reference}
 use Rattle.neldrafi_schema.specs.Schemas.{unknown_dialect, wrong_type, Rule, types, among, equal_to, limited, multiple_of, sized, distinct, required, all_of, dependent}
 use Rattle.neldrafi_schema.specs.Schemas.{properties, matching, other_members, no_other_members, member_names, placed, other_items, no_other_items}
-use Rattle.neldrafi_schema.specs.Schemas.{negation, any_of, one_of, contains, where_valid, where_not_valid, held}
-use Rattle.neldrafi_schema.specs.Values.{Lead, Sense, nothing, says, refused, additional_sense, branch_sense, dependencies_in, dependencies_sense, dependency_leads}
-use Rattle.neldrafi_schema.specs.Values.{dialect_sense, distinct_sense, draft_4_sense, flag_sense, greatest_of, has_placed_items, is_array, lead_below, lead_to, least_of, item_leads, items_sense, limit_sense, list_sense, map_sense}
+use Rattle.neldrafi_schema.specs.Schemas.{negation, any_of, one_of, contains, where_valid, where_not_valid, condition, unevaluated, held}
+use Rattle.neldrafi_schema.specs.Values.{Lead, Sense, nothing, says, refused, additional_sense, branch_sense, contains_rule, dependencies_in, dependencies_sense, dependency_leads, dependent_names}
+use Rattle.neldrafi_schema.specs.Values.{dialect_sense, distinct_sense, draft_4_sense, flag_sense, greatest_of, has_placed_items, if_rule, is_array, is_condition, lead_below, lead_to, least_of, item_leads, items_sense, limit_sense, list_sense, map_sense}
 use Rattle.neldrafi_schema.specs.Values.{member_leads, names_in, number_sense, of_kind, others_sense, positive_in, sense, target_sense, types_in, values_in}
 
 abbrev pub is_matching : Rule → Bool
@@ -94,19 +95,26 @@ module _ (path : Path) where
     map_down : (r : Rule) → is_matching r ≡ false → (o : Option Members) → IsSenseDown (map_sense r at o)
     map_down r plain o = kind_down (λ inside. says r (member_leads at inside)) (λ inside. leads_down r (member_leads at inside) plain (members_down inside)) o
 
-    others_down : (none some : Rule) → is_matching none ≡ false → is_matching some ≡ false → (o : Option Bool) → IsSenseDown (others_sense none some at o)
-    others_down none some p q (Some true) = tt
-    others_down none some p q (Some false) = no_leads none p
-    others_down none some p q None = one_down some q
+    others_down : (draft : Draft) (none some : Rule) → is_matching none ≡ false → is_matching some ≡ false → (o : Option Bool) → IsSenseDown (others_sense draft none some at o)
+    others_down draft none some p q (Some true) = chosen_down (has_unevaluated draft) (says some (lead_to at)) nothing (one_down some q) tt
+    others_down draft none some p q (Some false) = no_leads none p
+    others_down draft none some p q None = one_down some q
 
-    items_sense_down : (o : Option Items) → IsSenseDown (items_sense at o)
-    items_sense_down (Some ds) = list_down placed refl (Some ds)
-    items_sense_down None = one_down other_items refl
+    items_sense_down : (draft : Draft) (o : Option Items) → IsSenseDown (items_sense draft at o)
+    items_sense_down Draft202012 o = one_down other_items refl
+    items_sense_down Draft4 (Some ds) = list_down placed refl (Some ds)
+    items_sense_down Draft6 (Some ds) = list_down placed refl (Some ds)
+    items_sense_down Draft7 (Some ds) = list_down placed refl (Some ds)
+    items_sense_down Draft201909 (Some ds) = list_down placed refl (Some ds)
+    items_sense_down Draft4 None = one_down other_items refl
+    items_sense_down Draft6 None = one_down other_items refl
+    items_sense_down Draft7 None = one_down other_items refl
+    items_sense_down Draft201909 None = one_down other_items refl
 
-    additional_down : (ms : Members) (d : Data) → IsSenseDown (additional_sense ms at d)
-    additional_down ms d =
-        chosen_down (has_placed_items ms) (others_sense no_other_items other_items at (as_bool d)) (if is_some (as_bool d) then nothing else says held (lead_to at))
-        (others_down no_other_items other_items refl refl (as_bool d)) (chosen_down (is_some (as_bool d)) nothing (says held (lead_to at)) tt (one_down held refl))
+    additional_down : (draft : Draft) (ms : Members) (d : Data) → IsSenseDown (additional_sense draft ms at d)
+    additional_down draft ms d =
+        chosen_down (has_placed_items ms) (others_sense draft no_other_items other_items at (as_bool d)) (if is_some (as_bool d) then nothing else says held (lead_to at))
+        (others_down draft no_other_items other_items refl refl (as_bool d)) (chosen_down (is_some (as_bool d)) nothing (says held (lead_to at)) tt (one_down held refl))
 
     branch_down : (r : Rule) (ms : Members) → is_matching r ≡ false → IsSenseDown (branch_sense r ms path at)
     branch_down r ms plain =
@@ -135,6 +143,10 @@ module _ (path : Path) where
   draft_4_down ms limit.ExclusiveMinimum d = flag_down (codes "minimum") ms d
   draft_4_down ms limit.ExclusiveMaximum d = flag_down (codes "maximum") ms d
 
+  if_plain : (b : Bool) → is_matching (if b then condition else held) ≡ false
+  if_plain true = refl
+  if_plain false = refl
+
   pub sense_down : (draft : Draft) (document : Data) (ms : Members) (at : Path) (k : Known) (d : Data) → length path < length at
       → IsSenseDown (sense draft document ms path at k d)
   sense_down draft document ms at known.Dialect d h = kind_down dialect_sense (λ text. chosen_down (is_some (draft_named text)) nothing (refused unknown_dialect) tt tt) (as_str d)
@@ -150,16 +162,23 @@ module _ (path : Path) where
   sense_down draft document ms at known.Dependencies d h = kind_down (dependencies_sense draft at) (λ inside. dependencies_sense_down at h draft inside) (as_object d)
   sense_down draft document ms at known.Properties d h = map_down at h properties refl (as_object d)
   sense_down draft document ms at known.PatternProperties d h = tt
-  sense_down draft document ms at known.AdditionalProperties d h = others_down at h no_other_members other_members refl refl (as_bool d)
+  sense_down draft document ms at known.AdditionalProperties d h = others_down at h draft no_other_members other_members refl refl (as_bool d)
   sense_down draft document ms at known.PropertyNames d h = one_down at h member_names refl
-  sense_down draft document ms at known.Items d h = items_sense_down at h (as_array d)
-  sense_down draft document ms at known.AdditionalItems d h = additional_down at h ms d
-  sense_down draft document ms at known.Contains d h = one_down at h contains refl
+  sense_down draft document ms at known.Items d h = items_sense_down at h draft (as_array d)
+  sense_down draft document ms at known.AdditionalItems d h = additional_down at h draft ms d
+  sense_down draft document ms at known.Contains d h = one_down at h (contains_rule draft ms) refl
   sense_down draft document ms at known.AllOf d h = list_down at h all_of refl (as_array d)
   sense_down draft document ms at known.AnyOf d h = list_down at h any_of refl (as_array d)
   sense_down draft document ms at known.OneOf d h = list_down at h one_of refl (as_array d)
   sense_down draft document ms at known.Not d h = one_down at h (negation d) refl
-  sense_down draft document ms at known.If d h = one_down at h held refl
+  sense_down draft document ms at known.If d h = one_down at h (if_rule draft ms) (if_plain (is_condition draft ms))
+  sense_down draft document ms at known.DependentRequired d h = kind_down (λ ds. says (dependent ds) []) (λ ds. no_leads (dependent ds) refl)
+      (option_and_then (dependent_names draft) (as_object d))
+  sense_down draft document ms at known.DependentSchemas d h = map_down at h (dependent []) refl (as_object d)
+  sense_down draft document ms at known.PrefixItems d h = list_down at h placed refl (as_array d)
+  sense_down draft document ms at known.ContainsCount d h = kind_down (λ n. nothing) (λ n. tt) (size_in d)
+  sense_down draft document ms at (known.Unevaluated p) d h = others_down at h draft (unevaluated p) (unevaluated p) refl refl (as_bool d)
+  sense_down draft document ms at known.Defs d h = map_down at h held refl (as_object d)
   sense_down draft document ms at known.Then d h = branch_down at h where_valid ms refl
   sense_down draft document ms at known.Else d h = branch_down at h where_not_valid ms refl
   sense_down draft document ms at known.Definitions d h = map_down at h held refl (as_object d)
@@ -191,9 +210,11 @@ module _ {E : Type 0} (outcome : E → List ℕ → Outcome) (lists : Lists) whe
   rule_ready (compiled.Negation v) e count = tt
   rule_ready compiled.AnyOf e count = tt
   rule_ready compiled.OneOf e count = tt
-  rule_ready compiled.Contains e count = tt
+  rule_ready (compiled.Contains least most counts) e count = tt
   rule_ready compiled.WhereValid e count = tt
   rule_ready compiled.WhereNotValid e count = tt
+  rule_ready compiled.Condition e count = tt
+  rule_ready (compiled.Unevaluated part) e count = tt
   rule_ready compiled.Held e count = tt
 
   pub sense_ready : (path : Path) (s : CompiledSense E) → IsSenseDown path (sense_of outcome s) → IsSenseReady outcome lists s

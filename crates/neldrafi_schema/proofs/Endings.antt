@@ -53,7 +53,7 @@ module _ {E : Type 0} (outcome : E → List ℕ → Outcome) (nodes : List (Node
   -- what a node's schema reports
   pub reports_there : (lists : Lists) (steps n : ℕ) (node : Node E) (d : Data) (site : Site) (es : List Error) → n < length nodes → node ≡ get_or nodes n node
       → Reports (schemas_of outcome nodes) lists (suc steps) n d site es
-      ≡ SchemaReports (Reports (schemas_of outcome nodes) lists steps) lists node.location (body_of outcome node.body) d site es
+      ≡ SchemaReports (schemas_of outcome nodes) (Reports (schemas_of outcome nodes) lists steps) lists node.location (body_of outcome node.body) d site es
   unfolding Reports
   reports_there lists steps n node d site es h e = rw (schema_there n node h e) refl
 
@@ -63,10 +63,6 @@ pub keyword_end : {K : Type 0} (of : K → Keyword) (end : ℕ → Bool) (ks : L
 keyword_end of end [] i k e h is = absurd (omega arith)
 keyword_end of end (j ∷ ks) zero k e h is = rw is (and_left _ _ e)
 keyword_end of end (j ∷ ks) (suc i) k e h is = keyword_end of end ks i k (and_right (list_all end (in_place (of j))) _ e) (omega arith) is
-
--- the one to which a keyword leads
-pub end_of_one : (end : ℕ → Bool) (n : ℕ) → list_all end (n ∷ []) ≡ true → end n ≡ true
-end_of_one end n e = and_left (end n) true e
 
 -- what a keyword of a node leads to ends with a step less
 module _ {E : Type 0} (outcome : E → List ℕ → Outcome) (nodes : List (Node E)) (n steps : ℕ) (node : Node E) (ks : List (CompiledKeyword E)) (is : node ≡ get_or nodes n node) where
@@ -81,6 +77,18 @@ module _ {E : Type 0} (outcome : E → List ℕ → Outcome) (nodes : List (Node
         rw same (keyword_end (keyword_of outcome) (ends (schemas_of outcome nodes) s) ks i key
         (subst (λ b. body_ends (ends (schemas_of outcome nodes) s) b ≡ true) e
         (ends_below outcome nodes s n node (ends_inside outcome nodes (suc s) n end) is end)) h at)
+
+  -- and so do all of them
+  pub all_below : body_of outcome node.body ≡ keywords (map (keyword_of outcome) ks) → ends (schemas_of outcome nodes) steps n ≡ true
+      → keywords_end (ends (schemas_of outcome nodes) (steps - 1)) (map (keyword_of outcome) ks) ≡ true
+  all_below e end = further steps (ends_some (schemas_of outcome nodes) steps n end) end where
+    further : (s : ℕ) → 0 < s → ends (schemas_of outcome nodes) s n ≡ true
+        → keywords_end (ends (schemas_of outcome nodes) (s - 1)) (map (keyword_of outcome) ks) ≡ true
+    further zero some end = absurd (omega arith)
+    further (suc s) some end =
+        let same : suc s - 1 ≡ s = omega arith in
+        rw same (subst (λ b. body_ends (ends (schemas_of outcome nodes) s) b ≡ true) e
+        (ends_below outcome nodes s n node (ends_inside outcome nodes (suc s) n end) is end))
 
 module _ {E : Type 0} (outcome : E → List ℕ → Outcome) (nodes : List (Node E)) where
   -- the flags of bodies are those of schemas

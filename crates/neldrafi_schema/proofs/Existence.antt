@@ -2,7 +2,7 @@
 use Rattle.std.proofs.Common.{◌≡◌, ◌↔◌, ℕ, zero, suc, ◌+◌, ◌≤◌, List, [], ◌∷◌, ◌++◌, length, refl, Bool, true, false, Some, None, Option, map, IsTrue, arith}
 use Rattle.std.proofs.lemmas.Bool.{false≢true}
 use Rattle.std.specs.Prelude.{MatchOption, slice_get}
-use Rattle.std.specs.List.{AllByRecursion}
+use Rattle.std.specs.List.{AllByRecursion, flat_map}
 use Rattle.serde_json.specs.Data.{Data}
 use Rattle.serde_json.specs.Find.{as_str}
 use Rattle.strkw_report.specs.declared.error.Site.{Site}
@@ -11,12 +11,13 @@ use Rattle.strkw_keywords.specs.Meanings.{Lists}
 use Rattle.neldrafi_schema.specs.Errors.{Error, of_text}
 use Rattle.neldrafi_schema.specs.Schemas.{Keyword, rule, string_keyword, malformed, Body, always, never, keywords, neither, Schema}
 use Rattle.neldrafi_schema.specs.Meaning.{AreVerdicts, Below, EachReports, KeywordReports, KeywordsReport, SchemaReports, Reports, site_of}
-use Rattle.neldrafi_schema.specs.Rules.{Target, applied, tested}
+use Rattle.neldrafi_schema.specs.Rules.{Target, applied, on_each, part_of, tested}
 use Rattle.neldrafi_schema.specs.machine.Ready.{steps_for}
 use Rattle.neldrafi_schema.specs.machine.Sound.{AreSound, IsSoundBody}
 use Rattle.neldrafi_schema.specs.Refusals.{ends, schema_ends}
 use Rattle.neldrafi_schema.proofs.Fitting.{Fits, IsBodyFine, IsKeywordFine, body_fits}
-use Rattle.neldrafi_schema.proofs.Within.{Hold}
+use Rattle.neldrafi_schema.proofs.Within.{Hold, both_hold}
+use Rattle.neldrafi_schema.proofs.Evaluation.{unevaluated_fine, unevaluated_is}
 
 -- it cannot be that there is none
 abbrev pub ThereIs : (List Error → Type 0) → Type 0
@@ -29,7 +30,7 @@ here P es p none = none es p
 decides : (X : Type 0) → ((b : Bool) → (IsTrue b ↔ X) → ⊥) → ⊥
 decides X none = none false ((λ t. absurd (false≢true t)), (λ x. absurd (none true ((λ _. x), (λ _. refl)))))
 
-module _ (some : ReportsAreThere) (lists : Lists) (below : Below) (Fine : ℕ → Data → Type 0) (is : (n : ℕ) (d : Data) (site : Site) → Fine n d → ThereIs (below n d site)) where
+module _ (some : ReportsAreThere) (schemas : List Schema) (lists : Lists) (below : Below) (Fine : ℕ → Data → Type 0) (is : (n : ℕ) (d : Data) (site : Site) → Fine n d → ThereIs (below n d site)) where
   verdicts_are : (site : Site) (word : List ℕ) (ts : List Target) → ((vs : List Bool) → AreVerdicts below site word ts vs → ⊥) → ⊥
   verdicts_are site word [] none = none [] refl
   verdicts_are site word (t ∷ ts) none = decides _ (λ v p. verdicts_are site word ts (λ vs q. none (v ∷ vs) (v, vs, p, q, refl)))
@@ -40,20 +41,23 @@ module _ (some : ReportsAreThere) (lists : Lists) (below : Below) (Fine : ℕ �
       (λ es p. each_are site word ts fine.1 (λ fs q. none (es ++ fs) (es, fs, p, q, refl)))
 
   keyword_is : (location : List ℕ) (beside : List Keyword) (k : Keyword) (d : Data) (site : Site) → IsKeywordFine Fine d beside k
-      → ThereIs (KeywordReports below lists location beside k d site)
-  keyword_is location beside (rule word r bs) d site fine none = verdicts_are site word (tested r bs d)
-      (λ vs v. each_are site word (applied beside r bs d vs) (fine.1 vs) (λ es p. none _ (vs, es, v, p, refl)))
+      → ThereIs (KeywordReports schemas below lists location beside k d site)
+  keyword_is location beside (rule word r bs) d site fine none = verdicts_are site word (tested r bs d) (λ vs v.
+      unevaluated_is schemas below beside d (part_of r) (λ l c.
+      each_are site word (applied beside r bs d vs ++ flat_map (on_each l) bs)
+      (both_hold Fine (applied beside r bs d vs) (flat_map (on_each l) bs) (fine.1 vs) (unevaluated_fine schemas below Fine beside d (part_of r) bs l c fine.2))
+      (λ es p. none _ (vs, l, es, v, c, p, refl))))
   keyword_is location beside (string_keyword asserted) d site fine none =
       some asserted lists site (as_str d) (λ rs p. none (map of_text rs) (rs, p, refl))
   keyword_is location beside (malformed path why) d site fine none = fine
 
   keywords_are : (location : List ℕ) (beside ks : List Keyword) (d : Data) (site : Site) → AllByRecursion (IsKeywordFine Fine d beside) ks
-      → ThereIs (KeywordsReport below lists location beside ks d site)
+      → ThereIs (KeywordsReport schemas below lists location beside ks d site)
   keywords_are location beside [] d site fine none = none [] refl
   keywords_are location beside (k ∷ ks) d site fine none = keyword_is location beside k d site fine.0
       (λ es p. keywords_are location beside ks d site fine.1 (λ fs q. none (es ++ fs) (es, fs, p, q, refl)))
 
-  pub schema_is : (location : List ℕ) (body : Body) (d : Data) (site : Site) → IsBodyFine Fine d body → ThereIs (SchemaReports below lists location body d site)
+  pub schema_is : (location : List ℕ) (body : Body) (d : Data) (site : Site) → IsBodyFine Fine d body → ThereIs (SchemaReports schemas below lists location body d site)
   schema_is location always d site fine none = none [] refl
   schema_is location never d site fine none = none _ refl
   schema_is location (keywords ks) d site fine none = keywords_are location ks ks d site fine none
@@ -63,10 +67,10 @@ module _ (there : ReportsAreThere) (schemas : List Schema) (lists : Lists) (soun
   module _ (k s : ℕ) (d : Data) (fits : steps_for (length schemas) d (suc s) ≤ suc k)
       (is : (n : ℕ) (d : Data) (site : Site) → Fits schemas sound k n d → ThereIs (Reports schemas lists k n d site)) where
     there_fits : (o : Option Schema) (site : Site) → ((t : Schema) → o ≡ Some t → IsSoundBody (length schemas) t.body) → schema_ends (ends schemas s) o ≡ true
-        → ThereIs (λ es. MatchOption o ⊥ (λ t. SchemaReports (Reports schemas lists k) lists t.location t.body d site es))
+        → ThereIs (λ es. MatchOption o ⊥ (λ t. SchemaReports schemas (Reports schemas lists k) lists t.location t.body d site es))
     there_fits None site good e none = false≢true e
     there_fits (Some t) site good e none =
-        schema_is there lists (Reports schemas lists k) (Fits schemas sound k) is t.location t.body d site (body_fits schemas sound k s d fits t.body (good t refl) e) none
+        schema_is there schemas lists (Reports schemas lists k) (Fits schemas sound k) is t.location t.body d site (body_fits schemas sound k s d fits t.body (good t refl) e) none
 
   pub reports_are : (k n : ℕ) (d : Data) (site : Site) → Fits schemas sound k n d → ThereIs (Reports schemas lists k n d site)
   unfolding Reports ends

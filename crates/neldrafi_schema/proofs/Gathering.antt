@@ -9,13 +9,13 @@ use Rattle.neldrafi_schema.specs.declared.node.Body.TheVariants as body
 use Rattle.neldrafi_schema.specs.declared.node.Keyword.{Keyword as CompiledKeyword}
 use Rattle.neldrafi_schema.specs.declared.node.Node.{Node}
 use Rattle.neldrafi_schema.specs.declared.targets.Target.{Target as FoundTarget}
-use Rattle.neldrafi_schema.specs.Errors.{Error}
-use Rattle.neldrafi_schema.specs.Schemas.{Branch, Keyword, Rule, rule}
-use Rattle.neldrafi_schema.specs.Rules.{applied, kinds, tested}
-use Rattle.neldrafi_schema.specs.Meaning.{AreVerdicts, Below, EachReports, KeywordReports, KeywordsReport, SchemaReports, error_of, error_of_false, site_of}
+use Rattle.neldrafi_schema.specs.Errors.{Error, Kind}
+use Rattle.neldrafi_schema.specs.Schemas.{Branch, Keyword, Rule, Schema, rule}
+use Rattle.neldrafi_schema.specs.Meaning.{Below, EachReports, KeywordReports, KeywordsReport, SchemaReports, error_of, error_of_false, site_of}
 use Rattle.neldrafi_schema.specs.Refusals.{ends}
 use Rattle.neldrafi_schema.specs.machine.Compiled.{body_of, keyword_of, keywords_of, schemas_of, seen_data, target_of, targets_of}
 use Rattle.neldrafi_schema.specs.machine.Found.{Appended}
+use Rattle.neldrafi_schema.specs.machine.Left.{AreFindings}
 use Rattle.neldrafi_schema.specs.machine.Ready.{steps_for}
 use Rattle.neldrafi_schema.proofs.Appending.{appended_alike, both_appended, nothing_appended}
 use Rattle.neldrafi_schema.proofs.Lists.{drop_one, drop_past}
@@ -28,7 +28,7 @@ module _ {E : Type 0} (outcome : E → List ℕ → Outcome) (nodes : List (Node
   always_appends e lists d k site old h = nothing_appended _ old ((always_accepts outcome nodes n steps node is end e lists d k site h).0 refl)
 
   is_never : (get_or nodes n node).body ≡ body.Never → (lists : Lists) (d : Data) (j : ℕ) (site : Site) (es : List Error)
-      → es ≡ error_of_false (get_or nodes n node).location site d ∷ [] → SchemaReports (Within outcome nodes lists j) lists node.location (body_of outcome node.body) d site es
+      → es ≡ error_of_false (get_or nodes n node).location site d ∷ [] → SchemaReports (schemas_of outcome nodes) (Within outcome nodes lists j) lists node.location (body_of outcome node.body) d site es
   is_never e lists d j site es r = rw (is, e) r
 
   pub never_appends : (get_or nodes n node).body ≡ body.Never → (lists : Lists) (d : Data) (k : ℕ) (site : Site) (old new : List ValidationError)
@@ -41,69 +41,77 @@ module _ {E : Type 0} (outcome : E → List ℕ → Outcome) (nodes : List (Node
   -- those of its keywords
   module _ (ks : Vec (CompiledKeyword E) Global) (items : List (CompiledKeyword E)) (e : (get_or nodes n node).body ≡ body.Keywords ks) (read : items ≡ ks.items) where
     in_node : (lists : Lists) (d : Data) (j : ℕ) (site : Site) (es : List Error)
-        → KeywordsReport (Within outcome nodes lists j) lists (get_or nodes n node).location (keywords_of outcome items) (keywords_of outcome items) d site es
-        → SchemaReports (Within outcome nodes lists j) lists node.location (body_of outcome node.body) d site es
+        → KeywordsReport (schemas_of outcome nodes) (Within outcome nodes lists j) lists (get_or nodes n node).location (keywords_of outcome items) (keywords_of outcome items) d site es
+        → SchemaReports (schemas_of outcome nodes) (Within outcome nodes lists j) lists node.location (body_of outcome node.body) d site es
     in_node lists d j site es r = rw (is_body outcome nodes n steps node is end ks items e read)
-        (subst (λ l. KeywordsReport (Within outcome nodes lists j) lists l (keywords_of outcome items) (keywords_of outcome items) d site es) (sym (ap (λ t. t.location) is)) r)
+        (subst (λ l. KeywordsReport (schemas_of outcome nodes) (Within outcome nodes lists j) lists l (keywords_of outcome items) (keywords_of outcome items) d site es) (sym (ap (λ t. t.location) is)) r)
 
     pub keywords_append : (lists : Lists) (d : Data) (k : ℕ) (site : Site) (old new : List ValidationError) (i : ℕ) → length items ≤ i
         → steps_for (length nodes) d steps ≤ k
         → ((j : ℕ) → steps_for (length nodes) d (steps - 1) ≤ j → Appended (λ es. (later : List Error)
-        → KeywordsReport (Within outcome nodes lists j) lists (get_or nodes n node).location (keywords_of outcome items) (keywords_of outcome (drop i items)) d site later
-        → KeywordsReport (Within outcome nodes lists j) lists (get_or nodes n node).location (keywords_of outcome items) (keywords_of outcome items) d site (es ++ later)) old new)
+        → KeywordsReport (schemas_of outcome nodes) (Within outcome nodes lists j) lists (get_or nodes n node).location (keywords_of outcome items) (keywords_of outcome (drop i items)) d site later
+        → KeywordsReport (schemas_of outcome nodes) (Within outcome nodes lists j) lists (get_or nodes n node).location (keywords_of outcome items) (keywords_of outcome items) d site (es ++ later)) old new)
         → Appended (Within outcome nodes lists k n d site) old new
     keywords_append lists d k site old new i all enough so =
         let (j, less, same) = one_less outcome nodes n steps node is end lists d k enough in
         appended_alike _ _ old new
         (λ es p. subst (λ X. X) (sym (same site es)) (in_node lists d j site es
-        (subst (λ l. KeywordsReport (Within outcome nodes lists j) lists (get_or nodes n node).location (keywords_of outcome items) (keywords_of outcome items) d site l)
+        (subst (λ l. KeywordsReport (schemas_of outcome nodes) (Within outcome nodes lists j) lists (get_or nodes n node).location (keywords_of outcome items) (keywords_of outcome items) d site l)
         (append-nil es) (p [] (rw (drop_past items i all) refl)))))
         (so j less)
 
-module _ {E : Type 0} (outcome : E → List ℕ → Outcome) (below : Below) (lists : Lists) (location : List ℕ) (d : Data) (site : Site)
+module _ {E : Type 0} (outcome : E → List ℕ → Outcome) (schemas : List Schema) (below : Below) (lists : Lists) (location : List ℕ) (d : Data) (site : Site)
     (items beside : List (CompiledKeyword E)) (i : ℕ) (key : CompiledKeyword E) (inside : i < length items) (at : key ≡ get_or items i key) (read : beside ≡ items)
     (old mid new : List ValidationError) where
   -- where these are left
   abbrev Left : List (CompiledKeyword E) → List Error → Type 0
-  Left left es = (later : List Error) → KeywordsReport below lists location (keywords_of outcome items) (keywords_of outcome left) d site later
-      → KeywordsReport below lists location (keywords_of outcome items) (keywords_of outcome items) d site (es ++ later)
+  Left left es = (later : List Error) → KeywordsReport schemas below lists location (keywords_of outcome items) (keywords_of outcome left) d site later
+      → KeywordsReport schemas below lists location (keywords_of outcome items) (keywords_of outcome items) d site (es ++ later)
 
   first_of_left : (es fs : List Error) → Left (key ∷ drop (i + 1) items) es
-      → KeywordReports below lists location (keywords_of outcome items) (keyword_of outcome key) d site fs → Left (drop (i + 1) items) (es ++ fs)
+      → KeywordReports schemas below lists location (keywords_of outcome items) (keyword_of outcome key) d site fs → Left (drop (i + 1) items) (es ++ fs)
   first_of_left es fs p q later rest =
-      subst (λ l. KeywordsReport below lists location (keywords_of outcome items) (keywords_of outcome items) d site l) (sym (append_assoc es fs later))
+      subst (λ l. KeywordsReport schemas below lists location (keywords_of outcome items) (keywords_of outcome items) d site l) (sym (append_assoc es fs later))
       (p (fs ++ later) (fs, later, q, rest, refl))
 
   pub keyword_appends : Appended (Left (drop i items)) old mid
-      → Appended (KeywordReports below lists location (keywords_of outcome beside) (keyword_of outcome key) d site) mid new → Appended (Left (drop (i + 1) items)) old new
-  keyword_appends before this = both_appended (Left (key ∷ drop (i + 1) items)) (KeywordReports below lists location (keywords_of outcome items) (keyword_of outcome key) d site)
+      → Appended (KeywordReports schemas below lists location (keywords_of outcome beside) (keyword_of outcome key) d site) mid new → Appended (Left (drop (i + 1) items)) old new
+  keyword_appends before this = both_appended (Left (key ∷ drop (i + 1) items)) (KeywordReports schemas below lists location (keywords_of outcome items) (keyword_of outcome key) d site)
       (Left (drop (i + 1) items)) old mid new first_of_left
       (subst (λ l. Appended (Left l) old mid) (drop_one items i key inside at) before)
-      (subst (λ l. Appended (KeywordReports below lists location (keywords_of outcome l) (keyword_of outcome key) d site) mid new) read this)
+      (subst (λ l. Appended (KeywordReports schemas below lists location (keywords_of outcome l) (keyword_of outcome key) d site) mid new) read this)
 
-module _ (below : Below) (lists : Lists) (location : List ℕ) (beside : List Keyword) (word : List ℕ) (r : Rule) (bs : List Branch) (d : Data) (site : Site)
+module _ (schemas : List Schema) (below : Below) (lists : Lists) (location : List ℕ) (beside : List Keyword) (word : List ℕ) (r : Rule) (bs : List Branch) (d : Data) (site : Site)
     (items : List FoundTarget) where
   abbrev TargetsLeft : List FoundTarget → List Error → Type 0
   TargetsLeft left es = (later : List Error) → EachReports below site word (targets_of left) later
-      → KeywordReports below lists location beside (rule word r bs) d site (es ++ later)
+      → KeywordReports schemas below lists location beside (rule word r bs) d site (es ++ later)
 
   -- a keyword's own errors come first
-  pub kinds_first : (vs : List Bool) (old new : List ValidationError) → AreVerdicts below site word (tested r bs d) vs → targets_of items ≡ applied beside r bs d vs
-      → Appended (λ es. es ≡ map (error_of location site word d) (kinds beside word r d vs)) old new → Appended (TargetsLeft items) old new
-  kinds_first vs old new tests same = appended_alike _ _ old new
-      (λ es e later each. (vs, later, tests, subst (λ ts. EachReports below site word ts later) same each, ap (λ l. l ++ later) e))
+  pub kinds_first : (found : List Kind) (old new : List ValidationError) → AreFindings schemas below beside (rule word r bs) d site found (targets_of items)
+      → Appended (λ es. es ≡ map (error_of location site word d) found) old new → Appended (TargetsLeft items) old new
+  kinds_first found old new (vs, left, tests, rest, e, same) = appended_alike _ _ old new
+      (λ es x later each. (
+        vs,
+        left,
+        later,
+        tests,
+        rest,
+        subst (λ ts. EachReports below site word ts later) same each,
+        ap (λ l. l ++ later) (x ∙ ap (map (error_of location site word d)) e),
+      ))
 
   module _ (i : ℕ) where
     pub no_more_targets : (old new : List ValidationError) → length items ≤ i → Appended (TargetsLeft (drop i items)) old new
-        → Appended (KeywordReports below lists location beside (rule word r bs) d site) old new
+        → Appended (KeywordReports schemas below lists location beside (rule word r bs) d site) old new
     no_more_targets old new all = appended_alike _ _ old new
-        (λ es p. subst (λ l. KeywordReports below lists location beside (rule word r bs) d site l) (append-nil es) (p [] (rw (drop_past items i all) refl)))
+        (λ es p. subst (λ l. KeywordReports schemas below lists location beside (rule word r bs) d site l) (append-nil es) (p [] (rw (drop_past items i all) refl)))
 
     module _ (t : FoundTarget) (inside : i < length items) (at : t ≡ get_or items i t) where
       first_target : (es fs : List Error) → TargetsLeft (t ∷ drop (i + 1) items) es → below t.schema (seen_data t.value) (site_of site word (target_of t)) fs
           → TargetsLeft (drop (i + 1) items) (es ++ fs)
       first_target es fs p q later rest =
-          subst (λ l. KeywordReports below lists location beside (rule word r bs) d site l) (sym (append_assoc es fs later)) (p (fs ++ later) (fs, later, q, rest, refl))
+          subst (λ l. KeywordReports schemas below lists location beside (rule word r bs) d site l) (sym (append_assoc es fs later)) (p (fs ++ later) (fs, later, q, rest, refl))
 
       pub target_appends : (old mid new : List ValidationError) → Appended (TargetsLeft (drop i items)) old mid
           → Appended (below t.schema (seen_data t.value) (site_of site word (target_of t))) mid new → Appended (TargetsLeft (drop (i + 1) items)) old new

@@ -1,5 +1,5 @@
 -- Items and members, as lists.
-use Rattle.std.proofs.Common.{◌≡◌, ℕ, zero, suc, ◌<◌, get_or, Some, arith, List, [], ◌∷◌, map, length, refl, ap, ◌∙◌, sym, String, string_bytes, ◌+◌, ◌-◌, ◌≤◌, drop, add-one, None}
+use Rattle.std.proofs.Common.{◌≡◌, ℕ, zero, suc, ◌<◌, get_or, Some, arith, List, [], ◌∷◌, map, length, refl, ap, ◌∙◌, sym, String, string_bytes, ◌+◌, ◌-◌, ◌≤◌, drop, add-one, None, Bool}
 use Rattle.std.specs.declared.alloc.Global.{Global}
 use Rattle.std.proofs.lemmas.List.{length-map}
 use Rattle.serde_json.specs.Data.{Data, Members, null, boolean, number, string, array, object}
@@ -8,7 +8,7 @@ use Rattle.serde_json.specs.View.{items_of, items_view, members_of, members_view
 use Rattle.serde_json.specs.declared.value.Value.{Value}
 use Rattle.strkw_keywords.specs.Errors.{Assertion}
 use Rattle.neldrafi_schema.specs.Paths.{place as at_place}
-use Rattle.neldrafi_schema.specs.Rules.{item_list, items_in, member_list, members_in, on_items, on_matched, placed_from, placed_items, target}
+use Rattle.neldrafi_schema.specs.Rules.{Child, Target, item_list, items_in, member_list, members_in, on_items, on_matched, placed_from, placed_items, target, valid_of}
 use Rattle.neldrafi_schema.specs.Schemas.{Branch}
 use Rattle.neldrafi_schema.proofs.Lists.{drop_one}
 
@@ -83,6 +83,24 @@ module _ (b : Branch) (vs : List Value) (from place : ℕ) where
   item_passed v inside is h =
       let one : from - place ≡ suc (from - (place + 1)) = omega arith in
       rw (one, drop_one vs place v inside is, add-one) refl
+
+-- an item as a child, and those behind it
+abbrev pub as_child : ℕ × Data → Child
+as_child i = (at_place i.0, i.1)
+
+pub one_child : (vs : List Value) (i : ℕ) (v : Value) → i < length vs → v ≡ get_or vs i v
+    → map as_child (placed_from i (map view (drop i vs))) ≡ as_child (i, view v) ∷ map as_child (placed_from (i + 1) (map view (drop (i + 1) vs)))
+one_child vs i v h is = rw (drop_one vs i v h is, add-one) refl
+
+-- no target or no verdict is left
+pub no_targets : {X : Type 0} (f : X → Target) (xs : List X) (vs : List Bool) → length xs ≡ 0 → valid_of (map f xs) vs ≡ []
+no_targets f [] vs e = refl
+no_targets f (x ∷ xs) vs e = absurd (omega arith)
+
+pub no_verdicts : {X : Type 0} (f : X → Target) (xs : List X) (vs : List Bool) → length vs ≡ 0 → valid_of (map f xs) vs ≡ []
+no_verdicts f [] [] e = refl
+no_verdicts f (x ∷ xs) [] e = refl
+no_verdicts f xs (v ∷ vs) e = absurd (omega arith)
 
 -- no pattern or no schema is left
 pub no_patterns : {V X : Type 0} (d : Data) (f : V → List Assertion) (g : X → Branch) (vs : List V) (xs : List X) → length vs ≡ 0 → on_matched d (map f vs) (map g xs) ≡ []

@@ -10,9 +10,9 @@ use Rattle.strkw_report.specs.declared.draft.Draft.{Draft}
 use Rattle.neldrafi_schema.specs.declared.node.Dependency.{Dependency as CompiledDependency}
 use Rattle.neldrafi_schema.specs.Schemas.{Dependency}
 use Rattle.neldrafi_schema.specs.machine.Compiled.{dependency_of}
-use Rattle.neldrafi_schema.specs.declared.senses.Lead.{Lead as CompiledLead}
+use Rattle.neldrafi_schema.specs.declared.leads.Lead.{Lead as CompiledLead}
 use Rattle.neldrafi_schema.specs.Paths.{Path, Segment, key, place, child, value_at}
-use Rattle.neldrafi_schema.specs.Values.{Lead, dependencies_in, is_array, item_leads, lead_below, lead_to, names_in}
+use Rattle.neldrafi_schema.specs.Values.{Lead, dependencies_in, dependent_names, is_array, item_leads, lead_below, lead_to, names_in}
 use Rattle.neldrafi_schema.specs.machine.Places.{IsPlace, place_path}
 use Rattle.neldrafi_schema.specs.machine.Said.{lead_of}
 use Rattle.neldrafi_schema.proofs.Finding.{IsAmong, value_below}
@@ -80,6 +80,17 @@ pub one_dependency : (draft : Draft) (name : List ℕ) (d : Data) (rest : Member
     → is_array d ≡ true → names_in draft d ≡ Some required → dependency_of x ≡ (name, required) → more ≡ xs ++ x ∷ []
     → option_map (λ later. map dependency_of more ++ later) (dependencies_in draft rest) ≡ all
 one_dependency draft name d rest xs more x required all before is names same e = by (dependencies_in draft rest) ∙ (rw (is, names) at before) where
+  by : (o : Option (List Dependency)) → option_map (λ later. map dependency_of more ++ later) o
+      ≡ option_map (λ later. map dependency_of xs ++ later) (option_map (λ later. (name, required) ∷ later) o)
+  by None = refl
+  by (Some later) = ap Some (mapped_more dependency_of xs more x (name, required) later (map dependency_of xs ++ (name, required) ∷ later) refl same e)
+
+-- the same where each member has names
+pub one_requirement : (draft : Draft) (name : List ℕ) (d : Data) (rest : Members) (xs more : List CompiledDependency) (x : CompiledDependency) (required : List (List ℕ))
+    (all : Option (List Dependency)) → option_map (λ later. map dependency_of xs ++ later) (dependent_names draft (member name d rest)) ≡ all
+    → names_in draft d ≡ Some required → dependency_of x ≡ (name, required) → more ≡ xs ++ x ∷ []
+    → option_map (λ later. map dependency_of more ++ later) (dependent_names draft rest) ≡ all
+one_requirement draft name d rest xs more x required all before names same e = by (dependent_names draft rest) ∙ (rw names at before) where
   by : (o : Option (List Dependency)) → option_map (λ later. map dependency_of more ++ later) o
       ≡ option_map (λ later. map dependency_of xs ++ later) (option_map (λ later. (name, required) ∷ later) o)
   by None = refl

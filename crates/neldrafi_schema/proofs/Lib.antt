@@ -3,11 +3,13 @@ pub mod Items
 pub mod Texts
 pub mod Tokens
 pub mod Appending
-pub mod Determined
 pub mod Same
 pub mod Depth
 pub mod Within
 pub mod Fitting
+pub mod Evaluation
+pub mod Determined
+pub mod Taking
 pub mod Steps
 pub mod Existence
 pub mod Meaningful
@@ -30,6 +32,8 @@ pub mod Numbering
 pub mod CompiledPatterns
 pub mod Reported
 pub mod Filtered
+pub mod Entering
+pub mod Taken
 pub mod Visited
 pub mod Visiting
 pub mod Wholes

@@ -7,7 +7,7 @@ use Rattle.std.specs.List.{AllByRecursion}
 use Rattle.serde_json.specs.View.{view}
 use Rattle.neldrafi_schema.specs.declared.node.Branch.{Branch as CompiledBranch}
 use Rattle.neldrafi_schema.specs.declared.places.Places.{Places}
-use Rattle.neldrafi_schema.specs.declared.senses.Lead.{Lead as CompiledLead}
+use Rattle.neldrafi_schema.specs.declared.leads.Lead.{Lead as CompiledLead}
 use Rattle.neldrafi_schema.specs.Paths.{Path}
 use Rattle.neldrafi_schema.specs.Reading.{AreNumbered, numbered_by}
 use Rattle.neldrafi_schema.specs.Schemas.{Branch}

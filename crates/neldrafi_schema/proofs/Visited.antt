@@ -2,21 +2,23 @@
 use Rattle.std.proofs.Common.{◌≡◌, ◌↔◌, ◌∙◌, ℕ, zero, suc, ◌+◌, ◌-◌, ◌<◌, ◌≤◌, List, [], ◌∷◌, ◌++◌, length, get_or, map, refl, sym, ap, subst, arith, le_refl, Bool, true, false, IsTrue, Vec, Global}
 use Rattle.std.proofs.lemmas.Bool.{false≢true}
 use Rattle.std.specs.Prelude.{if◌then◌else◌}
-use Rattle.std.specs.List.{AllByRecursion, list_all}
+use Rattle.std.specs.List.{AllByRecursion, flat_map, list_all}
 use Rattle.serde_json.specs.Data.{Data, depth}
 use Rattle.strkw_report.specs.declared.error.Site.{Site}
 use Rattle.strkw_keywords.specs.Meanings.{Lists}
-use Rattle.neldrafi_schema.specs.Errors.{Error}
+use Rattle.neldrafi_schema.specs.Errors.{Error, Kind}
 use Rattle.neldrafi_schema.specs.Schemas.{Branch, Keyword, Rule, Schema, rule}
-use Rattle.neldrafi_schema.specs.Rules.{Target, applied, kinds, tested}
+use Rattle.neldrafi_schema.specs.Rules.{Child, Target, applied, kinds, left_kinds, on_each, part_of, tested}
 use Rattle.neldrafi_schema.specs.Meaning.{AreVerdicts, Below, EachReports, KeywordReports, KeywordsReport, error_of, site_of}
 use Rattle.neldrafi_schema.specs.Refusals.{ends, in_place, is_in_place, schemas_in}
+use Rattle.neldrafi_schema.specs.machine.Left.{AreFindings}
 use Rattle.neldrafi_schema.specs.machine.Ready.{steps_for}
 use Rattle.neldrafi_schema.proofs.Depth.{fewer_steps}
 use Rattle.neldrafi_schema.proofs.Determined.{verdicts_same}
-use Rattle.neldrafi_schema.proofs.Fitting.{and_left, and_right}
+use Rattle.neldrafi_schema.proofs.Evaluation.{unevaluated_fine, unevaluated_same}
+use Rattle.neldrafi_schema.proofs.Fitting.{and_left, and_right, enters_instance}
 use Rattle.neldrafi_schema.proofs.Lists.{nil_left, nil_right}
-use Rattle.neldrafi_schema.proofs.Within.{Deep, Hold, applied_hold, tested_hold}
+use Rattle.neldrafi_schema.proofs.Within.{Deep, Hold, applied_hold, both_hold, left_hold, tested_hold}
 
 pub holds : (X : Type 0) (b : Bool) → b ≡ true → X → IsTrue b ↔ X
 holds X b e x = (λ t. x, λ y. e)
@@ -31,13 +33,13 @@ nothing_mapped f (x ∷ xs) e = cc
 
 -- ---- one after the other, where the first reports nothing
 
-module _ (below : Below) (lists : Lists) (location : List ℕ) (beside : List Keyword) (d : Data) (site : Site) (k : Keyword) (ks : List Keyword) where
-  pub keyword_first : KeywordsReport below lists location beside (k ∷ ks) d site [] → KeywordReports below lists location beside k d site []
-  keyword_first (a, b, p, q, e) = subst (λ es. KeywordReports below lists location beside k d site es) (nil_left a b e) p
+module _ (schemas : List Schema) (below : Below) (lists : Lists) (location : List ℕ) (beside : List Keyword) (d : Data) (site : Site) (k : Keyword) (ks : List Keyword) where
+  pub keyword_first : KeywordsReport schemas below lists location beside (k ∷ ks) d site [] → KeywordReports schemas below lists location beside k d site []
+  keyword_first (a, b, p, q, e) = subst (λ es. KeywordReports schemas below lists location beside k d site es) (nil_left a b e) p
 
-  pub keyword_passed : KeywordReports below lists location beside k d site []
-      → KeywordsReport below lists location beside (k ∷ ks) d site [] ↔ KeywordsReport below lists location beside ks d site []
-  keyword_passed p = (λ (a, b, o, q, e). subst (λ es. KeywordsReport below lists location beside ks d site es) (nil_right a b e) q, λ q. ([], [], p, q, refl))
+  pub keyword_passed : KeywordReports schemas below lists location beside k d site []
+      → KeywordsReport schemas below lists location beside (k ∷ ks) d site [] ↔ KeywordsReport schemas below lists location beside ks d site []
+  keyword_passed p = (λ (a, b, o, q, e). subst (λ es. KeywordsReport schemas below lists location beside ks d site es) (nil_right a b e) q, λ q. ([], [], p, q, refl))
 
 module _ (below : Below) (site : Site) (word : List ℕ) (t : Target) (ts : List Target) where
   pub target_first : EachReports below site word (t ∷ ts) [] → below t.schema t.value (site_of site word t) []
@@ -51,27 +53,47 @@ module _ (below : Below) (site : Site) (word : List ℕ) (t : Target) (ts : List
       → AreVerdicts below site word (t ∷ ts) (b ∷ vs)
   verdict_first b vs p q = (b, vs, p, q, refl)
 
--- ---- a rule, by its verdicts
+-- ---- a rule, by what is found
 
-module _ (below : Below) (lists : Lists) (location : List ℕ) (beside : List Keyword) (word : List ℕ) (r : Rule) (bs : List Branch) (d : Data) (site : Site)
-    (vs : List Bool) (tests : AreVerdicts below site word (tested r bs d) vs) where
+module _ (schemas : List Schema) (below : Below) (lists : Lists) (location : List ℕ) (beside : List Keyword) (word : List ℕ) (r : Rule) (bs : List Branch) (d : Data)
+    (site : Site) (found : List Kind) (ts : List Target) where
+  abbrev Found : Type 0
+  Found = AreFindings schemas below beside (rule word r bs) d site found ts
+
   abbrev Reported : Type 0
-  Reported = KeywordReports below lists location beside (rule word r bs) d site []
+  Reported = KeywordReports schemas below lists location beside (rule word r bs) d site []
 
-  pub rule_passes : kinds beside word r d vs ≡ [] → EachReports below site word (applied beside r bs d vs) [] → Reported
-  rule_passes e p = (vs, [], tests, p, rw e refl)
+  abbrev own : List Bool → List Child → List Kind
+  own us cs = kinds beside word r d us ++ left_kinds (part_of r) bs cs
 
-  pub no_kinds : Reported → kinds beside word r d vs ≡ []
-  no_kinds (ws, later, w, p, e) =
-      let same : ws ≡ vs = verdicts_same below site word (tested r bs d) ws vs w tests in
-      ap (kinds beside word r d) (sym same)
-      ∙ nothing_mapped (error_of location site word d) (kinds beside word r d ws) (nil_left (map (error_of location site word d) (kinds beside word r d ws)) later e)
+  pub rule_passes : Found → found ≡ [] → EachReports below site word ts [] → Reported
+  rule_passes (vs, left, tests, rest, e, same) none p = (
+    vs,
+    left,
+    [],
+    tests,
+    rest,
+    subst (λ us. EachReports below site word us []) same p,
+    sym (ap (λ l. map (error_of location site word d) l ++ []) (sym e ∙ none)),
+  )
 
-  pub no_targets : Reported → EachReports below site word (applied beside r bs d vs) []
-  no_targets (ws, later, w, p, e) =
-      let same : ws ≡ vs = verdicts_same below site word (tested r bs d) ws vs w tests in
-      subst (λ us. EachReports below site word (applied beside r bs d us) []) same
-      (subst (λ es. EachReports below site word (applied beside r bs d ws) es) (nil_right (map (error_of location site word d) (kinds beside word r d ws)) later e) p)
+  pub no_kinds : Found → Reported → found ≡ []
+  no_kinds (vs, left, tests, rest, e, same) (ws, l, later, w, u, p, x) =
+      let one : vs ≡ ws = verdicts_same below site word (tested r bs d) vs ws tests w in
+      let other : left ≡ l = unevaluated_same schemas below beside d (part_of r) left l rest u in
+      e ∙ ap (λ us. own us left) one ∙ ap (own ws) other
+      ∙ nothing_mapped (error_of location site word d) (own ws l) (nil_left (map (error_of location site word d) (own ws l)) later x)
+
+  pub no_targets : Found → Reported → EachReports below site word ts []
+  no_targets (vs, left, tests, rest, e, same) (ws, l, later, w, u, p, x) =
+      let one : ws ≡ vs = verdicts_same below site word (tested r bs d) ws vs w tests in
+      let other : l ≡ left = unevaluated_same schemas below beside d (part_of r) l left u rest in
+      let none : EachReports below site word (applied beside r bs d ws ++ flat_map (on_each l) bs) [] =
+      subst (λ es. EachReports below site word (applied beside r bs d ws ++ flat_map (on_each l) bs) es)
+      (nil_right (map (error_of location site word d) (own ws l)) later x) p in
+      subst (λ us. EachReports below site word us []) (sym same)
+      (subst (λ cs. EachReports below site word (applied beside r bs d vs ++ flat_map (on_each cs) bs) []) other
+      (subst (λ us. EachReports below site word (applied beside r bs d us ++ flat_map (on_each l) bs) []) one none))
 
 -- ---- the steps that are left
 
@@ -101,5 +123,12 @@ module _ (schemas : List Schema) (count : ℕ) (word : List ℕ) (r : Rule) (bs 
     pub tested_next : Hold IsNext (tested r bs d)
     tested_next = tested_hold IsNext d r bs next_here next_below
 
-    pub applied_next : (beside : List Keyword) (vs : List Bool) → Hold IsNext (applied beside r bs d vs)
+    applied_next : (beside : List Keyword) (vs : List Bool) → Hold IsNext (applied beside r bs d vs)
     applied_next beside vs = applied_hold IsNext d beside r bs vs next_here next_below
+
+    pub found_next : (below : Below) (beside : List Keyword) (site : Site) (found : List Kind) (ts : List Target)
+        → AreFindings schemas below beside (rule word r bs) d site found ts → Hold IsNext ts
+    found_next below beside site found ts (vs, left, tests, rest, e, same) = subst (Hold IsNext) (sym same)
+        (both_hold IsNext (applied beside r bs d vs) (flat_map (on_each left) bs) (applied_next beside vs)
+        (unevaluated_fine schemas below IsNext beside d (part_of r) bs left rest
+        (λ x is cs less. left_hold IsNext d cs bs less (next_below (enters_instance r x is)))))

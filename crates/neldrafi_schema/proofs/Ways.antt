@@ -106,6 +106,12 @@ module _ (paths : List Path) where
     known_down s document ms name known.Then d ks e = sense_says_down s document ms name known.Then d ks e
     known_down s document ms name known.Else d ks e = sense_says_down s document ms name known.Else d ks e
     known_down s document ms name known.Definitions d ks e = sense_says_down s document ms name known.Definitions d ks e
+    known_down s document ms name known.DependentRequired d ks e = sense_says_down s document ms name known.DependentRequired d ks e
+    known_down s document ms name known.DependentSchemas d ks e = sense_says_down s document ms name known.DependentSchemas d ks e
+    known_down s document ms name known.PrefixItems d ks e = sense_says_down s document ms name known.PrefixItems d ks e
+    known_down s document ms name known.ContainsCount d ks e = sense_says_down s document ms name known.ContainsCount d ks e
+    known_down s document ms name known.Defs d ks e = sense_says_down s document ms name known.Defs d ks e
+    known_down s document ms name (known.Unevaluated part) d ks e = sense_says_down s document ms name (known.Unevaluated part) d ks e
     known_down s document ms name (known.Text text) d ks e = entries_down _ _ _ ks e.said
     known_down s document ms name known.Unknown d ks e = sense_says_down s document ms name known.Unknown d ks e
 

@@ -6,8 +6,8 @@ use Rattle.serde_json.specs.Data.{Data, null, boolean, number, string, array, ob
 use Rattle.strkw_keywords.specs.Errors.{Assertion}
 use Rattle.neldrafi_schema.specs.Paths.{Segment, key, place, child}
 use Rattle.neldrafi_schema.specs.Refusals.{is_in_place}
-use Rattle.neldrafi_schema.specs.Rules.{Target, applied, child_at, first_of, is_matched, is_present, item_list, items_in, member_list, members_in, on_child, on_items, on_itself, on_matched, on_members, on_names, option_list, other_items_in, other_members_in, others_of, path_of, placed_from, placed_items, target, tested}
-use Rattle.neldrafi_schema.specs.Schemas.{Rule, types, among, equal_to, limited, multiple_of, sized, distinct, required, reference, all_of, dependent, properties, matching, other_members, no_other_members, member_names, placed, other_items, no_other_items, negation, any_of, one_of, contains, where_valid, where_not_valid, held, Branch, Keyword}
+use Rattle.neldrafi_schema.specs.Rules.{Child, Target, applied, child_at, counts_nothing, first_of, is_matched, is_present, item_list, items_in, member_list, members_in, on_child, on_each, on_items, on_itself, on_matched, on_members, on_names, option_list, other_items_in, other_members_in, others_of, path_of, placed_from, placed_items, spans, target, tested, valid_of}
+use Rattle.neldrafi_schema.specs.Schemas.{Rule, types, among, equal_to, limited, multiple_of, sized, distinct, required, reference, all_of, dependent, properties, matching, other_members, no_other_members, member_names, placed, other_items, no_other_items, negation, any_of, one_of, contains, where_valid, where_not_valid, condition, unevaluated, held, Branch, Keyword}
 use Rattle.neldrafi_schema.proofs.Depth.{child_depth}
 
 -- ---- facts of each element
@@ -40,7 +40,7 @@ items_less : (ds : Items) (n : ℕ) → items_depth ds ≤ n → AllByRecursion 
 items_less no_items n h = tt
 items_less (item d ds) n h = (omega (arith, h), items_less ds n (omega (arith, h)))
 
-members_in_less : (d : Data) → AllByRecursion (λ m. depth m.1 < depth d) (members_in d)
+pub members_in_less : (d : Data) → AllByRecursion (λ m. depth m.1 < depth d) (members_in d)
 members_in_less null = tt
 members_in_less (boolean b) = tt
 members_in_less (number x) = tt
@@ -52,7 +52,7 @@ placed_less : (n m : ℕ) (ds : List Data) → AllByRecursion (λ d. depth d < m
 placed_less n m [] all = tt
 placed_less n m (d ∷ ds) all = (all.0, placed_less (suc n) m ds all.1)
 
-items_in_less : (d : Data) → AllByRecursion (λ i. depth i.1 < depth d) (placed_items d)
+pub items_in_less : (d : Data) → AllByRecursion (λ i. depth i.1 < depth d) (placed_items d)
 items_in_less null = tt
 items_in_less (boolean b) = tt
 items_in_less (number x) = tt
@@ -67,7 +67,7 @@ module _ (P : ℕ → Data → Type 0) where
   abbrev pub Hold : List Target → Type 0
   Hold ts = AllByRecursion (λ t. P t.schema t.value) ts
 
-  both_hold : (ts us : List Target) → Hold ts → Hold us → Hold (ts ++ us)
+  pub both_hold : (ts us : List Target) → Hold ts → Hold us → Hold (ts ++ us)
   both_hold [] us p q = q
   both_hold (t ∷ ts) us p q = (p.0, both_hold ts us p.1 q)
 
@@ -143,9 +143,11 @@ module _ (P : ℕ → Data → Type 0) where
     tested_hold (negation schema) bs here below = itself_hold d bs (here refl)
     tested_hold any_of bs here below = itself_hold d bs (here refl)
     tested_hold one_of bs here below = itself_hold d bs (here refl)
-    tested_hold contains bs here below = flat_hold (on_items (placed_items d)) (λ b deep. items_hold (placed_items d) b (items_in_less d) deep) bs (below refl)
+    tested_hold (contains least most counts) bs here below = flat_hold (on_items (placed_items d)) (λ b deep. items_hold (placed_items d) b (items_in_less d) deep) bs (below refl)
     tested_hold where_valid bs here below = itself_hold d (others_of bs) (all_dropped _ 1 bs (here refl))
     tested_hold where_not_valid bs here below = itself_hold d (others_of bs) (all_dropped _ 1 bs (here refl))
+    tested_hold condition bs here below = itself_hold d bs (here refl)
+    tested_hold (unevaluated x) bs here below = tt
     tested_hold held bs here below = tt
 
     pub applied_hold : (beside : List Keyword) (r : Rule) (bs : List Branch) (vs : List Bool) → (is_in_place r ≡ true → Here bs)
@@ -174,7 +176,28 @@ module _ (P : ℕ → Data → Type 0) where
     applied_hold beside (negation schema) bs vs here below = tt
     applied_hold beside any_of bs vs here below = tt
     applied_hold beside one_of bs vs here below = tt
-    applied_hold beside contains bs vs here below = tt
+    applied_hold beside (contains least most counts) bs vs here below = tt
     applied_hold beside where_valid bs vs here below = chosen_hold (list_all (λ v. v) vs) _ _ (itself_hold d (first_of bs) (all_taken _ 1 bs (here refl))) tt
     applied_hold beside where_not_valid bs vs here below = chosen_hold (list_all (λ v. v) vs) _ _ tt (itself_hold d (first_of bs) (all_taken _ 1 bs (here refl)))
+    applied_hold beside condition bs vs here below = tt
+    applied_hold beside (unevaluated x) bs vs here below = tt
     applied_hold beside held bs vs here below = tt
+
+    valid_hold : (ts : List Target) (vs : List Bool) → Hold ts → Hold (valid_of ts vs)
+    valid_hold [] vs all = tt
+    valid_hold (t ∷ ts) [] all = tt
+    valid_hold (t ∷ ts) (true ∷ vs) all = (all.0, valid_hold ts vs all.1)
+    valid_hold (t ∷ ts) (false ∷ vs) all = valid_hold ts vs all.1
+
+    pub spans_hold : (beside : List Keyword) (r : Rule) (bs : List Branch) (vs : List Bool) → Hold (tested r bs d) → Hold (applied beside r bs d vs)
+        → Hold (spans beside r bs d vs)
+    spans_hold beside r bs vs by_tests by_rule = chosen_hold (counts_nothing r) [] _ tt
+        (both_hold (valid_of (tested r bs d) vs) (applied beside r bs d vs) (valid_hold (tested r bs d) vs by_tests) by_rule)
+
+    each_hold : (cs : List Child) (b : Branch) → AllByRecursion (λ c. depth c.1 < depth d) cs → Deep b → Hold (on_each cs b)
+    each_hold [] b less deep = tt
+    each_hold (c ∷ cs) b less deep = (deep c.1 less.0, each_hold cs b less.1 deep)
+
+    pub left_hold : (cs : List Child) (bs : List Branch) → AllByRecursion (λ c. depth c.1 < depth d) cs → AllByRecursion Deep bs
+        → Hold (flat_map (on_each cs) bs)
+    left_hold cs bs less deep = flat_hold (on_each cs) (λ b. each_hold cs b less) bs deep

@@ -1,6 +1,6 @@
 -- The drafts: their names in `$schema`, and which keywords each has.
 use Rattle.std.specs.Prelude.{◌==◌, ℕ, List, ◌++◌, Bool, true, false, not, ◌&&◌, ◌||◌, Option, Some, None}
-use Rattle.std.specs.Prelude.{codes, if◌then◌else◌, is_some, option_and_then, unwrap_or}
+use Rattle.std.specs.Prelude.{codes, nat_le, if◌then◌else◌, is_some, option_and_then, unwrap_or}
 use Rattle.std.specs.Str.{bytes_eq}
 use Rattle.serde_json.specs.Data.{Data, Members}
 use Rattle.serde_json.specs.Find.{get, get_member, as_str}
@@ -10,6 +10,7 @@ use Rattle.strkw_keywords.specs.declared.keyword.Keyword.TheVariants as text
 use Rattle.strkw_keywords.specs.Keywords.{keyword_name}
 use Rattle.neldrafi_schema.specs.declared.limits.Limit.TheVariants as limit
 use Rattle.neldrafi_schema.specs.declared.limits.Size.TheVariants as size
+use Rattle.neldrafi_schema.specs.declared.node.Part.TheVariants as part
 use Rattle.neldrafi_schema.specs.declared.known.Known.{Known}
 use Rattle.neldrafi_schema.specs.declared.known.Known.TheVariants as known
 
@@ -66,6 +67,13 @@ named name =
     else (if bytes_eq name (codes "items") then known.Items
     else (if bytes_eq name (codes "additionalItems") then known.AdditionalItems
     else (if bytes_eq name (codes "contains") then known.Contains
+    else (if bytes_eq name (codes "minContains") then known.ContainsCount
+    else (if bytes_eq name (codes "maxContains") then known.ContainsCount
+    else (if bytes_eq name (codes "prefixItems") then known.PrefixItems
+    else (if bytes_eq name (codes "dependentRequired") then known.DependentRequired
+    else (if bytes_eq name (codes "dependentSchemas") then known.DependentSchemas
+    else (if bytes_eq name (codes "unevaluatedProperties") then known.Unevaluated part.Members
+    else (if bytes_eq name (codes "unevaluatedItems") then known.Unevaluated part.Items
     else (if bytes_eq name (codes "allOf") then known.AllOf
     else (if bytes_eq name (codes "anyOf") then known.AnyOf
     else (if bytes_eq name (codes "oneOf") then known.OneOf
@@ -74,32 +82,49 @@ named name =
     else (if bytes_eq name (codes "then") then known.Then
     else (if bytes_eq name (codes "else") then known.Else
     else (if bytes_eq name (codes "definitions") then known.Definitions
+    else (if bytes_eq name (codes "$defs") then known.Defs
     else (if bytes_eq name (keyword_name text.Format) then known.Text text.Format
     else (if bytes_eq name (keyword_name text.MinLength) then known.Text text.MinLength
     else (if bytes_eq name (keyword_name text.MaxLength) then known.Text text.MaxLength
     else (if bytes_eq name (keyword_name text.Pattern) then known.Text text.Pattern
-    else known.Unknown)))))))))))))))))))))))))))))))))))
+    else known.Unknown)))))))))))))))))))))))))))))))))))))))))))
 
--- whether a draft has a keyword, or has it only as later steps read it
+-- drafts in their order
+abbrev pub draft_number : Draft → ℕ
+draft_number Draft4 = 4
+draft_number Draft6 = 6
+draft_number Draft7 = 7
+draft_number Draft201909 = 8
+draft_number Draft202012 = 9
+
+-- the first draft that has a keyword, and the last
+abbrev pub since : Known → Draft
+since known.Constant = Draft6
+since known.PropertyNames = Draft6
+since known.Contains = Draft6
+since known.If = Draft7
+since known.Then = Draft7
+since known.Else = Draft7
+since known.ContainsCount = Draft201909
+since known.DependentRequired = Draft201909
+since known.DependentSchemas = Draft201909
+since known.Defs = Draft201909
+since (known.Unevaluated p) = Draft201909
+since known.PrefixItems = Draft202012
+since keyword = Draft4
+
+abbrev pub until : Known → Draft
+until known.Dependencies = Draft7
+until known.AdditionalItems = Draft201909
+until keyword = Draft202012
+
 abbrev pub has_keyword : Draft → Known → Bool
-has_keyword Draft4 known.Constant = false
-has_keyword Draft4 known.PropertyNames = false
-has_keyword Draft4 known.Contains = false
-has_keyword Draft4 known.If = false
-has_keyword Draft4 known.Then = false
-has_keyword Draft4 known.Else = false
-has_keyword Draft6 known.If = false
-has_keyword Draft6 known.Then = false
-has_keyword Draft6 known.Else = false
-has_keyword Draft201909 known.Dependencies = false
-has_keyword Draft201909 known.Definitions = false
-has_keyword Draft201909 known.Contains = false
-has_keyword Draft202012 known.Dependencies = false
-has_keyword Draft202012 known.Definitions = false
-has_keyword Draft202012 known.Contains = false
-has_keyword Draft202012 known.Items = false
-has_keyword Draft202012 known.AdditionalItems = false
-has_keyword draft keyword = true
+has_keyword draft keyword = nat_le (draft_number (since keyword)) (draft_number draft)
+    && nat_le (draft_number draft) (draft_number (until keyword))
+
+-- whether a draft has keywords that speak of what is evaluated
+abbrev pub has_unevaluated : Draft → Bool
+has_unevaluated draft = nat_le (draft_number Draft201909) (draft_number draft)
 
 -- drafts 4 to 7 ignore what stands beside a reference (draft 7, Core, section 8.3)
 abbrev pub ignores_siblings : Draft → Bool

@@ -31,6 +31,8 @@ pub data Kind : Type 0 where
   valid_by_none : List ℕ → Kind
   valid_by_several : Kind
   none_contained : Kind
+  unevaluated_members : List (List ℕ) → Kind
+  unevaluated_items : List Data → Kind
 
 -- the locations are JSON pointers; that of evaluation has the way through references
 pub record Found : Type 0 where
@@ -132,6 +134,10 @@ message (valid_by_none name) x = x
 message valid_by_several x = x
     ++ codes " is valid under more than one of the schemas listed in the 'oneOf' keyword"
 message none_contained x = codes "None of " ++ x ++ codes " are valid under the given schema"
+message (unevaluated_members names) x = codes "Unevaluated properties are not allowed ("
+    ++ unexpected_text (map in_quotes names)
+message (unevaluated_items ds) x = codes "Unevaluated items are not allowed ("
+    ++ unexpected_text (map compact_text ds)
 
 abbrev pub text_of : Error → List ℕ
 text_of (found f) = message f.kind (compact_text f.instance)
@@ -144,6 +150,7 @@ kind_holds_float (not_equal_to d) = has_float d
 kind_holds_float (beyond l n) = is_float n
 kind_holds_float (not_multiple n) = is_float n
 kind_holds_float (unexpected_items ds) = list_any has_float ds
+kind_holds_float (unevaluated_items ds) = list_any has_float ds
 kind_holds_float (negated schema) = has_float schema
 kind_holds_float other = false
 

@@ -7,7 +7,7 @@ use Rattle.strkw_keywords.specs.Object.{Settings}
 use Rattle.neldrafi_schema.specs.Paths.{Path, key, location_of, StandsBefore}
 use Rattle.neldrafi_schema.specs.Schemas.{Reason, wrong_type, circular_reference}
 use Rattle.neldrafi_schema.specs.Schemas.{Rule, reference, all_of, dependent, negation, any_of, one_of}
-use Rattle.neldrafi_schema.specs.Schemas.{where_valid, where_not_valid, Branch, Keyword, rule, malformed}
+use Rattle.neldrafi_schema.specs.Schemas.{where_valid, where_not_valid, condition, Branch, Keyword, rule, malformed}
 use Rattle.neldrafi_schema.specs.Schemas.{Body, always, never, keywords, neither, Schema}
 use Rattle.neldrafi_schema.specs.Drafts.{reference_name}
 use Rattle.neldrafi_schema.specs.Reading.{Says}
@@ -50,6 +50,7 @@ is_in_place any_of = true
 is_in_place one_of = true
 is_in_place where_valid = true
 is_in_place where_not_valid = true
+is_in_place condition = true
 is_in_place other = false
 
 abbrev pub schemas_in : List Branch → List ℕ

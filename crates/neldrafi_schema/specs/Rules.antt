@@ -1,6 +1,6 @@
 -- What each keyword says of an instance, by the verdicts on others: which errors, and which schemas
 -- have to report theirs. Sections are those of Validation, draft 7 (6.x), and of Core 2020-12 (10.x).
-use Rattle.std.specs.Prelude.{ℕ, zero, suc, List, [], ◌∷◌, ◌++◌, map, Bool, true, false, not}
+use Rattle.std.specs.Prelude.{ℕ, zero, suc, List, [], ◌∷◌, ◌++◌, map, Bool, true, false, not, ◌&&◌}
 use Rattle.std.specs.Prelude.{◌||◌, Option, Some, None, if◌then◌else◌, is_some}
 use Rattle.std.specs.Prelude.{length, nat_le, option_and_then, take, drop}
 use Rattle.std.specs.List.{flat_map, filter, list_all, list_any}
@@ -16,19 +16,21 @@ use Rattle.neldrafi_schema.specs.declared.limits.Limit.{Limit}
 use Rattle.neldrafi_schema.specs.declared.limits.Limit.TheVariants as limit
 use Rattle.neldrafi_schema.specs.declared.limits.Size.{Size}
 use Rattle.neldrafi_schema.specs.declared.limits.Size.TheVariants as size
+use Rattle.neldrafi_schema.specs.declared.node.Part.{Part}
+use Rattle.neldrafi_schema.specs.declared.node.Part.TheVariants as part
 use Rattle.neldrafi_schema.specs.Types.{counts_as}
 use Rattle.neldrafi_schema.specs.Numbers.{is_less, is_multiple}
 use Rattle.neldrafi_schema.specs.Equality.{same, are_distinct}
-use Rattle.neldrafi_schema.specs.Paths.{Path, Segment, key, place, child}
+use Rattle.neldrafi_schema.specs.Paths.{Path, Segment, segment_text, key, place, child}
 use Rattle.neldrafi_schema.specs.Errors.{Kind, not_of_types, not_among, not_equal_to, beyond, not_multiple}
 use Rattle.neldrafi_schema.specs.Errors.{of_other_size, not_distinct, missing, unexpected_members}
 use Rattle.neldrafi_schema.specs.Errors.{unexpected_items, negated, valid_by_none, valid_by_several}
-use Rattle.neldrafi_schema.specs.Errors.{none_contained}
+use Rattle.neldrafi_schema.specs.Errors.{none_contained, unevaluated_members, unevaluated_items}
 use Rattle.neldrafi_schema.specs.Schemas.{Dependency, Rule, types, among, equal_to, limited, multiple_of}
 use Rattle.neldrafi_schema.specs.Schemas.{sized, distinct, required, reference, all_of, dependent}
 use Rattle.neldrafi_schema.specs.Schemas.{properties, matching, other_members, no_other_members}
 use Rattle.neldrafi_schema.specs.Schemas.{member_names, placed, other_items, no_other_items, negation}
-use Rattle.neldrafi_schema.specs.Schemas.{any_of, one_of, contains, where_valid, where_not_valid, held}
+use Rattle.neldrafi_schema.specs.Schemas.{any_of, one_of, contains, where_valid, where_not_valid, condition, unevaluated}
 use Rattle.neldrafi_schema.specs.Schemas.{Branch, Keyword, rule}
 
 -- a value that is to be valid by a schema; the segments below the keyword that lead to the schema,
@@ -154,9 +156,10 @@ abbrev pub tested : Rule → List Branch → Data → List Target
 tested (negation schema) bs d = on_itself d bs
 tested any_of bs d = on_itself d bs
 tested one_of bs d = on_itself d bs
-tested contains bs d = flat_map (on_items (placed_items d)) bs
+tested (contains least most counts) bs d = flat_map (on_items (placed_items d)) bs
 tested where_valid bs d = on_itself d (others_of bs)
 tested where_not_valid bs d = on_itself d (others_of bs)
+tested condition bs d = on_itself d bs
 tested other bs d = []
 
 -- what has to report all of its errors, by those verdicts
@@ -174,6 +177,52 @@ applied beside where_valid bs d vs = if list_all (λ v. v) vs then on_itself d (
 applied beside where_not_valid bs d vs =
     if list_all (λ v. v) vs then [] else on_itself d (first_of bs)
 applied beside other bs d vs = []
+
+-- ---- what of an instance is evaluated, of which `unevaluatedItems` and `unevaluatedProperties`
+-- speak (Core 2020-12, sections 7.7.1 and 11)
+
+abbrev pub valid_of : List Target → List Bool → List Target
+valid_of (t ∷ ts) (true ∷ vs) = t ∷ valid_of ts vs
+valid_of (t ∷ ts) (false ∷ vs) = valid_of ts vs
+valid_of ts vs = []
+
+-- what these rules lead to is not part of the instance, or is not to be valid
+abbrev pub counts_nothing : Rule → Bool
+counts_nothing (negation schema) = true
+counts_nothing member_names = true
+counts_nothing (contains least most false) = true
+counts_nothing other = false
+
+-- The targets that count: those that are valid, or that have to be, since otherwise the instance is not.
+abbrev pub spans : List Keyword → Rule → List Branch → Data → List Bool → List Target
+spans beside r bs d vs =
+    if counts_nothing r then [] else valid_of (tested r bs d) vs ++ applied beside r bs d vs
+
+-- a member or an item, and the segment that leads to it
+abbrev pub Child : Type 0
+Child = Segment × Data
+
+abbrev pub children : Part → Data → List Child
+children part.Members d = map (λ m. (key m.0, m.1)) (members_in d)
+children part.Items d = map (λ i. (place i.0, i.1)) (placed_items d)
+
+abbrev pub is_of_part : Part → Segment → Bool
+is_of_part part.Members (key name) = true
+is_of_part part.Items (place n) = true
+is_of_part other s = false
+
+-- whether a rule speaks of what no keyword beside evaluates, and of which part of an instance
+abbrev pub part_of : Rule → Option Part
+part_of (unevaluated part) = Some part
+part_of other = None
+
+-- it then leaves none of this part
+abbrev pub is_all_of : Segment → Option Part → Bool
+is_all_of s (Some part) = is_of_part part s
+is_all_of s None = false
+
+abbrev pub on_each : List Child → Branch → List Target
+on_each cs b = map (λ c. target b c.1 (c.0 ∷ [])) cs
 
 -- ---- errors
 
@@ -226,6 +275,17 @@ by_count word (suc (suc n)) = valid_by_several ∷ []
 abbrev pub count_of : List Bool → ℕ
 count_of vs = length (filter (λ v. v) vs)
 
+abbrev pub is_between : ℕ → Option ℕ → ℕ → Bool
+is_between least None n = nat_le least n
+is_between least (Some most) n = nat_le least n && nat_le n most
+
+-- of the children that are left, where there are to be none
+abbrev pub left_kinds : Option Part → List Branch → List Child → List Kind
+left_kinds (Some part.Members) [] cs =
+    none_allowed unevaluated_members (map (λ c. segment_text c.0) cs)
+left_kinds (Some part.Items) [] cs = none_allowed unevaluated_items (map (λ c. c.1) cs)
+left_kinds other bs cs = []
+
 -- what the keyword of a name reports itself
 abbrev pub kinds : List Keyword → List ℕ → Rule → Data → List Bool → List Kind
 kinds beside word (types floats ts) d vs = unless (list_any (λ t. counts_as floats t d) ts) (not_of_types ts)
@@ -244,6 +304,6 @@ kinds beside word no_other_items d vs =
 kinds beside word (negation schema) d vs = unless (not (list_any (λ v. v) vs)) (negated schema)
 kinds beside word any_of d vs = unless (list_any (λ v. v) vs) (valid_by_none word)
 kinds beside word one_of d vs = by_count word (count_of vs)
-kinds beside word contains d vs =
-    unless (not (is_some (as_array d)) || list_any (λ v. v) vs) none_contained
+kinds beside word (contains least most counts) d vs =
+    unless (not (is_some (as_array d)) || is_between least most (count_of vs)) none_contained
 kinds beside word other d vs = []

@@ -7,6 +7,7 @@ use Rattle.strkw_report.specs.Refusals.{Reason as TextReason}
 use Rattle.neldrafi_schema.specs.declared.json_type.JsonType.{JsonType}
 use Rattle.neldrafi_schema.specs.declared.limits.Limit.{Limit}
 use Rattle.neldrafi_schema.specs.declared.limits.Size.{Size}
+use Rattle.neldrafi_schema.specs.declared.node.Part.{Part}
 use Rattle.neldrafi_schema.specs.Paths.{Path, Segment}
 
 -- why a schema document is refused
@@ -57,10 +58,16 @@ pub data Rule : Type 0 where
   negation : Data → Rule
   any_of : Rule
   one_of : Rule
-  contains : Rule
+  -- so many at least, and at most; and whether the items that are valid count as evaluated
+  contains : ℕ → Option ℕ → Bool → Rule
   -- the first schema is of the instance where it is valid by the second, or where it is not
   where_valid : Rule
   where_not_valid : Rule
+  -- it reports nothing, but what the schema evaluates counts
+  condition : Rule
+  -- the schema is of the members or items that no keyword beside evaluates; without a schema, there
+  -- are to be none
+  unevaluated : Part → Rule
   -- nothing is said; the schemas have to be such
   held : Rule
 

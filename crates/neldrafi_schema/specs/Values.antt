@@ -1,12 +1,12 @@
 -- The values that keywords take, and what each comes to before its schemas are numbered. Sections are
 -- those of draft 7: Core, and Validation (6.x).
-use Rattle.std.specs.Prelude.{ℕ, zero, suc, List, [], ◌∷◌, ◌++◌, Bool, true, false, not, ◌&&◌, Option}
+use Rattle.std.specs.Prelude.{ℕ, zero, suc, List, [], ◌∷◌, ◌++◌, Bool, true, false, not, ◌&&◌, ◌||◌, Option}
 use Rattle.std.specs.Prelude.{Some, None, codes, if◌then◌else◌, option_and_then, option_map, is_some, unwrap_or}
 use Rattle.serde_json.specs.Data.{Data, Num, null, boolean, number, string, array, object}
 use Rattle.serde_json.specs.Data.{Items, no_items, item, Members, no_members, member}
 use Rattle.serde_json.specs.Find.{as_array, as_bool, as_number, as_object, as_str, get_member}
 use Rattle.strkw_report.specs.declared.draft.Draft.{Draft}
-use Rattle.strkw_report.specs.declared.draft.Draft.TheVariants.{Draft4, Draft6}
+use Rattle.strkw_report.specs.declared.draft.Draft.TheVariants.{Draft4, Draft6, Draft202012}
 use Rattle.neldrafi_schema.specs.declared.json_type.JsonType.{JsonType}
 use Rattle.neldrafi_schema.specs.declared.limits.Limit.{Limit}
 use Rattle.neldrafi_schema.specs.declared.limits.Limit.TheVariants as limit
@@ -17,13 +17,13 @@ use Rattle.neldrafi_schema.specs.Numbers.{if_positive, size_in}
 use Rattle.neldrafi_schema.specs.Rules.{item_list}
 use Rattle.neldrafi_schema.specs.Paths.{Path, Segment, key, place}
 use Rattle.neldrafi_schema.specs.References.{schema_referred}
-use Rattle.neldrafi_schema.specs.Drafts.{draft_named, is_draft_4}
+use Rattle.neldrafi_schema.specs.Drafts.{draft_named, has_keyword, has_unevaluated, is_draft_4}
 use Rattle.neldrafi_schema.specs.Schemas.{Reason, wrong_type, unresolved_reference, unknown_dialect}
 use Rattle.neldrafi_schema.specs.Schemas.{Dependency, Rule, types, among, equal_to, limited, multiple_of}
 use Rattle.neldrafi_schema.specs.Schemas.{sized, distinct, required, reference, all_of, dependent}
 use Rattle.neldrafi_schema.specs.Schemas.{properties, other_members, no_other_members, member_names}
 use Rattle.neldrafi_schema.specs.Schemas.{placed, other_items, no_other_items, negation, any_of, one_of}
-use Rattle.neldrafi_schema.specs.Schemas.{contains, where_valid, where_not_valid, held}
+use Rattle.neldrafi_schema.specs.Schemas.{contains, where_valid, where_not_valid, condition, unevaluated, held}
 
 -- a schema to which a keyword leads, by its path
 pub record Lead : Type 0 where
@@ -103,11 +103,13 @@ list_sense rule at other = refused wrong_type
 abbrev pub map_sense : Rule → Path → Option Members → Sense
 map_sense rule at ms = of_kind (λ inside. says rule (member_leads at inside)) ms
 
--- of what else an object or an array has: `true` allows it, and `false` is a keyword of its own
-abbrev pub others_sense : Rule → Rule → Path → Option Bool → Sense
-others_sense none some at (Some true) = nothing
-others_sense none some at (Some false) = says none []
-others_sense none some at None = says some (lead_to at)
+-- of what else an object or an array has: `true` allows it, and counts as a schema where it matters
+-- what is evaluated; `false` is a keyword of its own
+abbrev pub others_sense : Draft → Rule → Rule → Path → Option Bool → Sense
+others_sense draft none some at (Some true) =
+    if has_unevaluated draft then says some (lead_to at) else nothing
+others_sense draft none some at (Some false) = says none []
+others_sense draft none some at None = says some (lead_to at)
 
 -- ---- `dependencies` (6.5.7): by key, names, or a schema
 
@@ -124,6 +126,13 @@ abbrev pub dependency_leads : Path → Members → List Lead
 dependency_leads at no_members = []
 dependency_leads at (member name d ms) = if is_array d then dependency_leads at ms
     else lead_below at (key name) ∷ dependency_leads at ms
+
+-- `dependentRequired`: names by key (2019-09, section 6.5.4)
+abbrev pub dependent_names : Draft → Members → Option (List Dependency)
+dependent_names draft no_members = Some []
+dependent_names draft (member name d ms) = option_and_then
+    (λ names. option_map (λ rest. (name, names) ∷ rest) (dependent_names draft ms))
+    (names_in draft d)
 
 abbrev pub dependencies_sense : Draft → Path → Members → Sense
 dependencies_sense draft at ms =
@@ -172,18 +181,30 @@ target_sense None = refused unresolved_reference
 abbrev pub distinct_sense : Bool → Sense
 distinct_sense b = if b then says distinct [] else nothing
 
--- of an array, the schemas of its items by place; of any other value, the schema of all (6.4.1)
-abbrev pub items_sense : Path → Option Items → Sense
-items_sense at (Some ds) = list_sense placed at (Some ds)
-items_sense at None = says other_items (lead_to at)
+-- Of an array, the schemas of its items by place; of any other value, the schema of all (6.4.1). In
+-- 2020-12 it is that of the items behind those of `prefixItems` (Core 2020-12, section 10.3.1.2).
+abbrev pub items_sense : Draft → Path → Option Items → Sense
+items_sense Draft202012 at ds = says other_items (lead_to at)
+items_sense earlier at (Some ds) = list_sense placed at (Some ds)
+items_sense earlier at None = says other_items (lead_to at)
+
+-- how many items are to be valid: one at least, or as `minContains` and `maxContains` say beside
+-- (2019-09, section 6.4.4 and 6.4.5)
+abbrev pub count_beside : Draft → Members → List ℕ → Option ℕ
+count_beside draft ms name = if has_keyword draft known.ContainsCount
+    then option_and_then size_in (get_member name ms) else None
+
+abbrev pub contains_rule : Draft → Members → Rule
+contains_rule draft ms = contains (unwrap_or (count_beside draft ms (codes "minContains")) 1)
+    (count_beside draft ms (codes "maxContains")) (has_keyword draft known.PrefixItems)
 
 abbrev pub has_placed_items : Members → Bool
 has_placed_items ms = is_some (option_and_then as_array (get_member (codes "items") ms))
 
 -- it says nothing where `items` has no array (6.4.2)
-abbrev pub additional_sense : Members → Path → Data → Sense
-additional_sense ms at d = if has_placed_items ms
-    then others_sense no_other_items other_items at (as_bool d)
+abbrev pub additional_sense : Draft → Members → Path → Data → Sense
+additional_sense draft ms at d = if has_placed_items ms
+    then others_sense draft no_other_items other_items at (as_bool d)
     else (if is_some (as_bool d) then nothing else says held (lead_to at))
 
 -- `then` and `else` of the object ms at a path (6.6)
@@ -191,6 +212,14 @@ abbrev pub branch_sense : Rule → Members → Path → Path → Sense
 branch_sense r ms path at = if is_some (get_member (codes "if") ms)
     then says r (lead_to at ++ lead_to (path ++ key (codes "if") ∷ []))
     else says held (lead_to at)
+
+-- of `if` without `then` and `else`, only what it evaluates counts
+abbrev pub is_condition : Draft → Members → Bool
+is_condition draft ms = has_unevaluated draft
+    && not (is_some (get_member (codes "then") ms) || is_some (get_member (codes "else") ms))
+
+abbrev pub if_rule : Draft → Members → Rule
+if_rule draft ms = if is_condition draft ms then condition else held
 
 -- What the value of a keyword comes to that is neither a string keyword nor `patternProperties`: it
 -- stands at `at`, in the object ms at a path of the document.
@@ -214,17 +243,25 @@ sense draft document ms path at known.Dependencies d =
     of_kind (dependencies_sense draft at) (as_object d)
 sense draft document ms path at known.Properties d = map_sense properties at (as_object d)
 sense draft document ms path at known.AdditionalProperties d =
-    others_sense no_other_members other_members at (as_bool d)
+    others_sense draft no_other_members other_members at (as_bool d)
 sense draft document ms path at known.PropertyNames d = says member_names (lead_to at)
-sense draft document ms path at known.Items d = items_sense at (as_array d)
-sense draft document ms path at known.AdditionalItems d = additional_sense ms at d
-sense draft document ms path at known.Contains d = says contains (lead_to at)
+sense draft document ms path at known.DependentRequired d =
+    of_kind (λ ds. says (dependent ds) []) (option_and_then (dependent_names draft) (as_object d))
+sense draft document ms path at known.DependentSchemas d = map_sense (dependent []) at (as_object d)
+sense draft document ms path at known.PrefixItems d = list_sense placed at (as_array d)
+sense draft document ms path at known.Items d = items_sense draft at (as_array d)
+sense draft document ms path at known.AdditionalItems d = additional_sense draft ms at d
+sense draft document ms path at known.Contains d = says (contains_rule draft ms) (lead_to at)
+sense draft document ms path at known.ContainsCount d = of_kind (λ n. nothing) (size_in d)
 sense draft document ms path at known.AllOf d = list_sense all_of at (as_array d)
 sense draft document ms path at known.AnyOf d = list_sense any_of at (as_array d)
 sense draft document ms path at known.OneOf d = list_sense one_of at (as_array d)
 sense draft document ms path at known.Not d = says (negation d) (lead_to at)
-sense draft document ms path at known.If d = says held (lead_to at)
+sense draft document ms path at (known.Unevaluated p) d =
+    others_sense draft (unevaluated p) (unevaluated p) at (as_bool d)
+sense draft document ms path at known.If d = says (if_rule draft ms) (lead_to at)
 sense draft document ms path at known.Then d = branch_sense where_valid ms path at
 sense draft document ms path at known.Else d = branch_sense where_not_valid ms path at
 sense draft document ms path at known.Definitions d = map_sense held at (as_object d)
+sense draft document ms path at known.Defs d = map_sense held at (as_object d)
 sense draft document ms path at other d = nothing

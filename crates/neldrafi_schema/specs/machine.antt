@@ -3,6 +3,7 @@ pub mod Compiled
 pub mod Ready
 pub mod Closures
 pub mod Found
+pub mod Left
 pub mod Places
 pub mod Problems
 pub mod Said

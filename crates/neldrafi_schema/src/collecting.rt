@@ -6,7 +6,7 @@ ghost use Rattle.serde_json.specs.View.{view};
 ghost use Rattle.strkw_keywords.specs.Meanings.{Lists};
 ghost use Rattle.neldrafi_schema.specs.Errors.{of_text};
 ghost use Rattle.neldrafi_schema.specs.Meaning.{KeywordReports, Reports, error_of, error_of_false, site_of};
-ghost use Rattle.neldrafi_schema.specs.Refusals.{ends, in_place};
+ghost use Rattle.neldrafi_schema.specs.Refusals.{ends, in_place, keywords_end};
 ghost use Rattle.neldrafi_schema.specs.machine.Closures.{Finds, MayFind, MayTest, Tests};
 ghost use Rattle.neldrafi_schema.specs.machine.Compiled.{keyword_of, keywords_of, ruled_of, schemas_of, seen_data, target_of};
 ghost use Rattle.neldrafi_schema.specs.machine.Found.{Appended, kind_of, kinds_of};
@@ -59,6 +59,7 @@ where
             self.now.checker.nodes.now }
         requires answers { (lists : Lists)
             × Tests T.Fn self.now.checker.text_accepts.now E.outcome lists }
+        requires few { steps ≤ length self.now.checker.nodes.now }
         requires end { ends (schemas_of E.outcome self.now.checker.nodes.now) steps number ≡ true }
         ensures { (lists : Lists) → Tests T.Fn self.now.checker.text_accepts.now E.outcome lists
             → Finds F.Fn self.now.text_errors.now E.outcome lists → (k : ℕ)
@@ -97,6 +98,7 @@ where
             self.now.checker.nodes.now }
         requires answers { (lists : Lists)
             × Tests T.Fn self.now.checker.text_accepts.now E.outcome lists }
+        requires few { steps ≤ length self.now.checker.nodes.now }
         requires this { IsKeywordReady E.outcome (MayFind F.Fn self.now.text_errors.now)
             (length self.now.checker.nodes.now) keyword.now }
         requires also { IsKeywordReady E.outcome (MayTest T.Fn self.now.checker.text_accepts.now)
@@ -104,13 +106,17 @@ where
         requires others { AllByRecursion (IsKeywordReady E.outcome
             (MayTest T.Fn self.now.checker.text_accepts.now)
             (length self.now.checker.nodes.now)) beside.now }
+        requires ends { keywords_end (ends (schemas_of E.outcome self.now.checker.nodes.now)
+            steps) (keywords_of E.outcome beside.now) ≡ true }
         requires end { list_all (ends (schemas_of E.outcome self.now.checker.nodes.now) steps)
             (in_place (keyword_of E.outcome keyword.now)) ≡ true }
         ensures { (lists : Lists) → Tests T.Fn self.now.checker.text_accepts.now E.outcome lists
             → Finds F.Fn self.now.text_errors.now E.outcome lists → (k : ℕ)
             → steps_for (length self.now.checker.nodes.now) (view visit.now.instance.now) steps ≤ k
             → OnOk result (Appended (KeywordReports
-            (Reports (schemas_of E.outcome self.now.checker.nodes.now) lists k) lists node.now.location
+            (schemas_of E.outcome self.now.checker.nodes.now)
+            (Reports (schemas_of E.outcome self.now.checker.nodes.now) lists k) lists
+            node.now.location
             (keywords_of E.outcome beside.now) (keyword_of E.outcome keyword.now)
             (view visit.now.instance.now) visit.now.site.now) errors.old.items errors.new.items) }
     {
@@ -142,27 +148,31 @@ where
             self.now.checker.nodes.now }
         requires answers { (lists : Lists)
             × Tests T.Fn self.now.checker.text_accepts.now E.outcome lists }
+        requires few { steps ≤ length self.now.checker.nodes.now }
         requires this { IsRuledReady E.outcome (MayTest T.Fn self.now.checker.text_accepts.now)
             (length self.now.checker.nodes.now) ruled.now }
         requires others { AllByRecursion (IsKeywordReady E.outcome
             (MayTest T.Fn self.now.checker.text_accepts.now)
             (length self.now.checker.nodes.now)) beside.now }
+        requires ends { keywords_end (ends (schemas_of E.outcome self.now.checker.nodes.now)
+            steps) (keywords_of E.outcome beside.now) ≡ true }
         requires end { list_all (ends (schemas_of E.outcome self.now.checker.nodes.now) steps)
             (in_place (ruled_of E.outcome ruled.now)) ≡ true }
         ensures { (lists : Lists) → Tests T.Fn self.now.checker.text_accepts.now E.outcome lists
             → Finds F.Fn self.now.text_errors.now E.outcome lists → (k : ℕ)
             → steps_for (length self.now.checker.nodes.now) (view visit.now.instance.now) steps ≤ k
             → OnOk result (Appended (KeywordReports
-            (Reports (schemas_of E.outcome self.now.checker.nodes.now) lists k) lists node.now.location
+            (schemas_of E.outcome self.now.checker.nodes.now)
+            (Reports (schemas_of E.outcome self.now.checker.nodes.now) lists k) lists
+            node.now.location
             (keywords_of E.outcome beside.now) (ruled_of E.outcome ruled.now)
             (view visit.now.instance.now) visit.now.site.now) errors.old.items errors.new.items) }
     {
         let checker = &self.checker;
-        let verdicts = checker.verdicts(alloc, ruled, steps, visit.instance)?;
-        let kinds = checker.kinds(alloc, beside, ruled, visit.instance, &verdicts)?;
+        let (kinds, targets) = checker.findings(alloc, beside, ruled, steps, visit.instance)?;
         push_kinds(ruled.name.as_str(), kinds, &node.location, visit, errors)?;
         let left = checker.steps_below(ruled, steps);
-        for target in &checker.applied(alloc, beside, ruled, visit.instance, &verdicts)? {
+        for target in &targets {
             self.push_target(alloc, ruled, target, left, visit, errors)?;
         }
         Ok(())
@@ -184,6 +194,7 @@ where
             self.now.checker.nodes.now }
         requires answers { (lists : Lists)
             × Tests T.Fn self.now.checker.text_accepts.now E.outcome lists }
+        requires few { steps ≤ length self.now.checker.nodes.now }
         requires end { ends (schemas_of E.outcome self.now.checker.nodes.now) steps
             target.now.schema ≡ true }
         ensures { (lists : Lists) → Tests T.Fn self.now.checker.text_accepts.now E.outcome lists

@@ -48,6 +48,10 @@ pub enum ErrorKind {
     OneOfSeveral,
     /// None of its items is valid by the schema of `contains`.
     Contains,
+    /// It has properties that no keyword evaluates.
+    UnevaluatedProperties { unexpected: Vec<String> },
+    /// It has items that no keyword evaluates.
+    UnevaluatedItems { unexpected: Vec<Value> },
 }
 
 /// An error that no string keyword reports.
@@ -241,6 +245,22 @@ impl ErrorKind {
                     "None of ",
                     instance,
                     " are valid under the given schema",
+                )
+            }
+            ErrorKind::UnevaluatedProperties { unexpected } => {
+                let unexpected = unexpected_text(alloc, &quoted_names(alloc, unexpected)?)?;
+                behind(
+                    alloc,
+                    "Unevaluated properties are not allowed (",
+                    unexpected.as_str(),
+                )
+            }
+            ErrorKind::UnevaluatedItems { unexpected } => {
+                let unexpected = unexpected_text(alloc, &texts_of(alloc, unexpected)?)?;
+                behind(
+                    alloc,
+                    "Unevaluated items are not allowed (",
+                    unexpected.as_str(),
                 )
             }
         }

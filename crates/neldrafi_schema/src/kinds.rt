@@ -1,6 +1,6 @@
 //! What keywords report themselves.
 
-ghost use Rattle.std.specs.Prelude.{◌↔◌, ◌≡◌, ◌++◌, ◌∷◌, ℕ, IfOk, IsTrue, List, OnOk, [], false, map, option_map, string_bytes, true};
+ghost use Rattle.std.specs.Prelude.{◌↔◌, ◌≡◌, ◌++◌, ◌∷◌, ℕ, IfOk, IsTrue, List, OnOk, Some, [], false, map, option_map, string_bytes, true};
 ghost use Rattle.std.specs.List.{flat_map, list_all, list_any};
 ghost use Rattle.serde_json.specs.Data.{Data};
 ghost use Rattle.serde_json.specs.View.{number_view, view};
@@ -8,10 +8,11 @@ ghost use Rattle.strkw_pattern.specs.declared.engine.Outcome.{Outcome};
 ghost use Rattle.neldrafi_schema.specs.Equality.{same};
 ghost use Rattle.neldrafi_schema.specs.Errors.{valid_by_none};
 ghost use Rattle.neldrafi_schema.specs.Numbers.{is_multiple};
-ghost use Rattle.neldrafi_schema.specs.Rules.{count_of, if_number, is_distinct, is_within, kinds, missing_beside, missing_in, option_list};
+ghost use Rattle.neldrafi_schema.specs.Paths.{segment_text};
+ghost use Rattle.neldrafi_schema.specs.Rules.{count_of, if_number, is_between, is_distinct, is_within, kinds, left_kinds, missing_beside, missing_in, option_list};
 ghost use Rattle.neldrafi_schema.specs.Schemas.{Keyword};
 ghost use Rattle.neldrafi_schema.specs.Types.{counts_as};
-ghost use Rattle.neldrafi_schema.specs.machine.Compiled.{dependency_of, rule_of};
+ghost use Rattle.neldrafi_schema.specs.machine.Compiled.{branches_of, children_of, dependency_of, rule_of};
 ghost use Rattle.neldrafi_schema.specs.machine.Found.{kind_of, kinds_of};
 ghost use Rattle.neldrafi_schema.specs.machine.Single.{is_single, looks_beside};
 
@@ -19,8 +20,10 @@ use crate::equality::{are_distinct, same};
 use crate::error::ErrorKind;
 use crate::json_type::JsonType;
 use crate::limits::Limit;
-use crate::node::{Dependency, Rule};
+use crate::node::{Branch, Dependency, Part, Rule};
 use crate::numbers::is_multiple;
+use crate::segment::Step;
+use crate::targets::Child;
 use serde_json::{Number, Value};
 use std::alloc::{AllocError, Global};
 
@@ -119,7 +122,7 @@ fn failure<E>(
         Rule::AnyOf => none_of(alloc, name),
         Rule::OneOf if any_is_valid(verdicts) => Ok(Some(ErrorKind::OneOfSeveral)),
         Rule::OneOf => none_of(alloc, name),
-        Rule::Contains => Ok(Some(ErrorKind::Contains)),
+        Rule::Contains(_, _, _) => Ok(Some(ErrorKind::Contains)),
         _ => Ok(None),
     }
 }
@@ -148,9 +151,58 @@ fn holds<E>(rule: &Rule<E>, instance: &Value, verdicts: &[bool]) -> bool
         Rule::Negation(_) => !any_is_valid(verdicts),
         Rule::AnyOf => any_is_valid(verdicts),
         Rule::OneOf => count_of(verdicts) == 1,
-        Rule::Contains => !instance.is_array() || any_is_valid(verdicts),
+        Rule::Contains(least, most, _) => {
+            !instance.is_array() || is_between(*least, *most, count_of(verdicts) as u64)
+        }
         _ => true,
     }
+}
+
+/// An error where there are children, of which there are to be none.
+pub(crate) fn left_kinds(
+    alloc: Global,
+    part: Part,
+    branches: &[Branch],
+    left: &[Child<'_>],
+) -> Result<Vec<ErrorKind>, AllocError>
+    ensures { IfOk result (λ found. kinds_of found.items
+        ≡ left_kinds (Some part) (branches_of branches.now) (children_of left.now)) }
+{
+    if left.is_empty() || !branches.is_empty() {
+        return Ok(Vec::new(alloc));
+    }
+    match part {
+        Part::Members => {
+            let unexpected = names_of(alloc, left)?;
+            only(alloc, ErrorKind::UnevaluatedProperties { unexpected })
+        }
+        Part::Items => {
+            let unexpected = values_of(alloc, left)?;
+            only(alloc, ErrorKind::UnevaluatedItems { unexpected })
+        }
+    }
+}
+
+fn names_of(alloc: Global, children: &[Child<'_>]) -> Result<Vec<String>, AllocError>
+    ensures { IfOk result (λ names. map string_bytes names.items
+        ≡ map (λ c. segment_text c.0) (children_of children.now)) }
+{
+    let mut names = Vec::new(alloc);
+    for child in children {
+        names.push(child.step.to_text(alloc)?)?;
+    }
+    Ok(names)
+}
+
+fn values_of(alloc: Global, children: &[Child<'_>]) -> Result<Vec<Value>, AllocError>
+    ensures { IfOk result (λ values. map view values.items
+        ≡ map (λ c. c.1) (children_of children.now)) }
+{
+    let mut values = Vec::new(alloc);
+    for child in children {
+        values.push(child.value.clone()?)?;
+    }
+    Ok(values)
 }
 
 fn is_of_some(types: &[JsonType], floats: bool, instance: &Value) -> bool
@@ -223,6 +275,16 @@ pub(crate) fn all_are_valid(verdicts: &[bool]) -> bool
         }
     }
     true
+}
+
+fn is_between(least: u64, most: Option<u64>, count: u64) -> bool
+    ensures { result ≡ is_between least most count }
+{
+    least <= count
+        && match most {
+            Some(most) => count <= most,
+            None => true,
+        }
 }
 
 fn count_of(verdicts: &[bool]) -> usize

@@ -2,9 +2,10 @@
 
 ghost use Rattle.std.specs.Prelude.{◌≡◌, ◌++◌, codes};
 ghost use Rattle.serde_json.specs.View.{members_view, view};
-ghost use Rattle.neldrafi_schema.specs.Drafts.{counts, draft_named, draft_of, has_keyword, ignores_siblings, is_draft_4, is_uri, known_named, named, stays_beside_reference};
+ghost use Rattle.neldrafi_schema.specs.Drafts.{counts, draft_named, draft_number, draft_of, has_keyword, has_unevaluated, ignores_siblings, is_draft_4, is_uri, known_named, named, since, stays_beside_reference, until};
 
 use crate::limits::{Limit, Size};
+use crate::node::Part;
 use serde_json::{Map, Value};
 use strkw_keywords::{Keyword as TextKeyword, member};
 use strkw_report::Draft;
@@ -23,13 +24,17 @@ pub(crate) enum Known {
     UniqueItems,
     Required,
     Dependencies,
+    DependentRequired,
+    DependentSchemas,
     Properties,
     PatternProperties,
     AdditionalProperties,
     PropertyNames,
+    PrefixItems,
     Items,
     AdditionalItems,
     Contains,
+    ContainsCount,
     AllOf,
     AnyOf,
     OneOf,
@@ -38,6 +43,8 @@ pub(crate) enum Known {
     Then,
     Else,
     Definitions,
+    Defs,
+    Unevaluated(Part),
     Text(TextKeyword),
     Unknown,
 }
@@ -92,6 +99,10 @@ impl Known {
             "items" => Known::Items,
             "additionalItems" => Known::AdditionalItems,
             "contains" => Known::Contains,
+            "minContains" | "maxContains" => Known::ContainsCount,
+            "prefixItems" => Known::PrefixItems,
+            "dependentRequired" => Known::DependentRequired,
+            "dependentSchemas" => Known::DependentSchemas,
             "allOf" => Known::AllOf,
             "anyOf" => Known::AnyOf,
             "oneOf" => Known::OneOf,
@@ -100,6 +111,9 @@ impl Known {
             "then" => Known::Then,
             "else" => Known::Else,
             "definitions" => Known::Definitions,
+            "$defs" => Known::Defs,
+            "unevaluatedProperties" => Known::Unevaluated(Part::Members),
+            "unevaluatedItems" => Known::Unevaluated(Part::Items),
             "format" => Known::Text(TextKeyword::Format),
             "minLength" => Known::Text(TextKeyword::MinLength),
             "maxLength" => Known::Text(TextKeyword::MaxLength),
@@ -108,35 +122,39 @@ impl Known {
         }
     }
 
-    fn is_of(self, draft: Draft) -> bool
+    // Whether a draft has it.
+    pub fn is_of(self, draft: Draft) -> bool
         ensures { result ≡ has_keyword draft self }
     {
-        match draft {
-            Draft::Draft4 => !matches!(
-                self,
-                Known::Constant
-                    | Known::PropertyNames
-                    | Known::Contains
-                    | Known::If
-                    | Known::Then
-                    | Known::Else
-            ),
-            Draft::Draft6 => !matches!(self, Known::If | Known::Then | Known::Else),
-            Draft::Draft7 => true,
-            Draft::Draft201909 => {
-                !matches!(
-                    self,
-                    Known::Dependencies | Known::Definitions | Known::Contains
-                )
-            }
-            Draft::Draft202012 => !matches!(
-                self,
-                Known::Dependencies
-                    | Known::Definitions
-                    | Known::Contains
-                    | Known::Items
-                    | Known::AdditionalItems
-            ),
+        let draft = draft_number(draft);
+        draft_number(self.since()) <= draft && draft <= draft_number(self.until())
+    }
+
+    // The first draft that has it.
+    fn since(self) -> Draft
+        ensures { result ≡ since self }
+    {
+        match self {
+            Known::Constant | Known::PropertyNames | Known::Contains => Draft::Draft6,
+            Known::If | Known::Then | Known::Else => Draft::Draft7,
+            Known::ContainsCount
+            | Known::DependentRequired
+            | Known::DependentSchemas
+            | Known::Defs
+            | Known::Unevaluated(_) => Draft::Draft201909,
+            Known::PrefixItems => Draft::Draft202012,
+            _ => Draft::Draft4,
+        }
+    }
+
+    // The last draft that has it.
+    fn until(self) -> Draft
+        ensures { result ≡ until self }
+    {
+        match self {
+            Known::Dependencies => Draft::Draft7,
+            Known::AdditionalItems => Draft::Draft201909,
+            _ => Draft::Draft202012,
         }
     }
 
@@ -144,6 +162,26 @@ impl Known {
         ensures { result ≡ stays_beside_reference self }
     {
         matches!(self, Known::Dialect | Known::Reference)
+    }
+}
+
+/// Whether a draft has keywords that speak of what is evaluated.
+pub(crate) fn has_unevaluated(draft: Draft) -> bool
+    ensures { result ≡ has_unevaluated draft }
+{
+    draft_number(draft) >= draft_number(Draft::Draft201909)
+}
+
+// Drafts in their order.
+fn draft_number(draft: Draft) -> u64
+    ensures { result ≡ draft_number draft }
+{
+    match draft {
+        Draft::Draft4 => 4,
+        Draft::Draft6 => 6,
+        Draft::Draft7 => 7,
+        Draft::Draft201909 => 8,
+        Draft::Draft202012 => 9,
     }
 }
 

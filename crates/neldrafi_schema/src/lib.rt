@@ -1,6 +1,7 @@
 //! A JSON Schema, compiled as it is: which errors a JSON value has by it.
 #![tactic(auto)]
 
+mod assertions;
 mod collecting;
 mod compile;
 mod config;
@@ -11,6 +12,7 @@ mod json_type;
 mod kinds;
 mod known;
 pub mod laws;
+mod leads;
 mod limits;
 mod node;
 mod numbers;
@@ -18,6 +20,7 @@ mod places;
 mod problem;
 mod reading;
 mod refusal;
+mod rules;
 mod schema;
 mod segment;
 mod senses;

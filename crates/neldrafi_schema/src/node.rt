@@ -56,6 +56,13 @@ pub(crate) struct Dependency {
     pub required: Vec<String>,
 }
 
+/// The members of an object, or the items of an array.
+#[derive(Clone, Copy, PartialEq, Eq)]
+pub(crate) enum Part {
+    Members,
+    Items,
+}
+
 /// What a keyword says of instances, but for the schemas to which it leads.
 #[derive(Drop)]
 pub(crate) enum Rule<E> {
@@ -89,10 +96,15 @@ pub(crate) enum Rule<E> {
     Negation(Value),
     AnyOf,
     OneOf,
-    Contains,
+    /// How many items are to be valid at least, and at most; and whether these count as evaluated.
+    Contains(u64, Option<u64>, bool),
     /// `then` and `else`: their schema, and that of `if`.
     WhereValid,
     WhereNotValid,
+    /// `if` without `then` and `else`: only what it evaluates counts.
+    Condition,
+    /// Of the members or items that no keyword beside evaluates.
+    Unevaluated(Part),
     /// Nothing, but that the schemas are such.
     Held,
 }
@@ -101,11 +113,13 @@ impl<E> Rule<E> {
     ghost use Rattle.std.specs.Prelude.{◌≡◌, ℕ, List};
     ghost use Rattle.strkw_pattern.specs.declared.engine.Outcome.{Outcome};
     ghost use Rattle.neldrafi_schema.specs.Refusals.{is_in_place};
+    ghost use Rattle.neldrafi_schema.specs.Rules.{counts_nothing};
     ghost use Rattle.neldrafi_schema.specs.machine.Compiled.{rule_of};
 
     /// Whether its schemas are of the instance itself.
     pub fn is_in_place(&self) -> bool
-        ensures { (outcome : E → List ℕ → Outcome) → result ≡ is_in_place (rule_of outcome self.now) }
+        ensures { (outcome : E → List ℕ → Outcome)
+            → result ≡ is_in_place (rule_of outcome self.now) }
     {
         matches!(
             self,
@@ -117,6 +131,18 @@ impl<E> Rule<E> {
                 | Rule::OneOf
                 | Rule::WhereValid
                 | Rule::WhereNotValid
+                | Rule::Condition
+        )
+    }
+
+    /// Whether what its schemas evaluate does not count.
+    pub fn counts_nothing(&self) -> bool
+        ensures { (outcome : E → List ℕ → Outcome)
+            → result ≡ counts_nothing (rule_of outcome self.now) }
+    {
+        matches!(
+            self,
+            Rule::Negation(_) | Rule::MemberNames | Rule::Contains(_, _, false)
         )
     }
 }

@@ -20,13 +20,14 @@ ghost use Rattle.neldrafi_schema.specs.machine.Said.{Always, ArePatternsReady, I
 
 use crate::config::Config;
 use crate::known::{Known, is_draft_4};
+use crate::leads::{Lead, member_leads};
 use crate::node::{Body, Branch, Keyword, Node, Rule, Ruled};
 use crate::numbers::size_in;
 use crate::places::{Place, Places, location_of, path_below};
 use crate::problem::Problem;
 use crate::refusal::SchemaErrorKind;
 use crate::segment::{Segment, Step};
-use crate::senses::{Lead, Member, Sense, member_leads, sense_of};
+use crate::senses::{Member, Sense, sense_of};
 use serde_json::{Map, Value};
 use std::alloc::{AllocError, Global};
 use strkw_keywords::laws::compiled_is_in_use;

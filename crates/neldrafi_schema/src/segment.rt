@@ -1,11 +1,14 @@
 //! Steps into a value.
 
-ghost use Rattle.std.specs.Prelude.{◌≡◌, IfOk, option_map};
+ghost use Rattle.std.specs.Prelude.{◌≡◌, IfOk, option_map, string_bytes};
 ghost use Rattle.serde_json.specs.View.{view};
 ghost use Rattle.strkw_report.specs.Paths.{path_below};
 ghost use Rattle.neldrafi_schema.specs.Paths.{child, segment_text};
+ghost use Rattle.neldrafi_schema.specs.Rules.{is_of_part};
 ghost use Rattle.neldrafi_schema.specs.machine.Compiled.{segment_of, step_of};
+ghost use Rattle.neldrafi_schema.specs.machine.Left.{same_segment};
 
+use crate::node::Part;
 use serde_json::Value;
 use std::alloc::{AllocError, Global};
 use strkw_report::Location;
@@ -45,6 +48,26 @@ impl<'a> Step<'a> {
         })
     }
 
+    pub fn is(self, other: Step<'_>) -> bool
+        ensures { result ≡ same_segment (step_of self.entry) (step_of other.entry) }
+    {
+        match (self, other) {
+            (Step::Key(a), Step::Key(b)) => a == b,
+            (Step::Place(m), Step::Place(n)) => m == n,
+            _ => false,
+        }
+    }
+
+    /// Whether it leads to a member, or to an item.
+    pub fn is_of(self, part: Part) -> bool
+        ensures { result ≡ is_of_part part (step_of self.entry) }
+    {
+        matches!(
+            (self, part),
+            (Step::Key(_), Part::Members) | (Step::Place(_), Part::Items)
+        )
+    }
+
     /// The value there.
     pub fn child<'v>(self, value: &'v Value) -> Option<&'v Value>
         ensures { option_map (λ v. view v.now) result
@@ -53,6 +76,15 @@ impl<'a> Step<'a> {
         match self {
             Step::Key(name) => value.get(name),
             Step::Place(place) => value.get(place),
+        }
+    }
+
+    pub fn to_text(self, alloc: Global) -> Result<String, AllocError>
+        ensures { IfOk result (λ text. string_bytes text ≡ segment_text (step_of self.entry)) }
+    {
+        match self {
+            Step::Key(name) => String::from_str(alloc, name),
+            Step::Place(place) => format!(in alloc; "{place}"),
         }
     }
 

@@ -1,15 +1,16 @@
 //! The values that are to be valid by the schemas to which a keyword leads.
 
-ghost use Rattle.std.specs.Prelude.{◌≡◌, ◌++◌, ◌∷◌, ℕ, IfOk, List, OnOk, [], drop, option_map, unwrap_or};
+ghost use Rattle.std.specs.Prelude.{◌≡◌, ◌++◌, ◌∷◌, ℕ, IfOk, List, OnOk, [], drop, option_map, true, unwrap_or};
 ghost use Rattle.std.specs.List.{filter, flat_map};
 ghost use Rattle.serde_json.specs.View.{view};
 ghost use Rattle.strkw_pattern.specs.declared.engine.Outcome.{Outcome};
 ghost use Rattle.neldrafi_schema.specs.Paths.{key};
-ghost use Rattle.neldrafi_schema.specs.Rules.{child_at, is_present, on_child, on_items, on_itself, on_names, path_of, placed_count, placed_items, target, tested};
+ghost use Rattle.neldrafi_schema.specs.Rules.{child_at, children, is_of_part, is_present, on_child, on_each, on_items, on_itself, on_names, path_of, placed_count, placed_items, target, tested, valid_of};
 ghost use Rattle.neldrafi_schema.specs.Schemas.{Keyword as Said};
-ghost use Rattle.neldrafi_schema.specs.machine.Compiled.{branch_of, branches_of, keyword_of, keywords_of, rule_of, seen_data, step_of, target_of, targets_of};
+ghost use Rattle.neldrafi_schema.specs.machine.Compiled.{branch_of, branches_of, children_of, keyword_of, keywords_of, rule_of, seen_data, step_of, target_of, targets_of};
+ghost use Rattle.neldrafi_schema.specs.machine.Left.{Takes};
 
-use crate::node::{Branch, Keyword, Rule};
+use crate::node::{Branch, Keyword, Part, Rule};
 use crate::segment::Step;
 use serde_json::Value;
 use std::alloc::{AllocError, Global};
@@ -76,8 +77,10 @@ pub(crate) fn tested<'a, E>(
         ≡ tested (rule_of outcome rule.now) (branches_of branches.now) (view instance.now)) }
 {
     match rule {
-        Rule::Negation(_) | Rule::AnyOf | Rule::OneOf => on_itself(alloc, branches, instance),
-        Rule::Contains => on_items(alloc, branches, instance, 0),
+        Rule::Negation(_) | Rule::AnyOf | Rule::OneOf | Rule::Condition => {
+            on_itself(alloc, branches, instance)
+        }
+        Rule::Contains(_, _, _) => on_items(alloc, branches, instance, 0),
         Rule::WhereValid | Rule::WhereNotValid => match branches {
             [_, others @ ..] => on_itself(alloc, others, instance),
             [] => Ok(Vec::new(alloc)),
@@ -181,6 +184,119 @@ fn push_items<'a>(
         }
     }
     Ok(())
+}
+
+/// A member or an item of an instance, and the step that leads to it.
+#[derive(Clone, Copy)]
+pub(crate) struct Child<'a> {
+    pub step: Step<'a>,
+    pub value: &'a Value,
+}
+
+/// The members or the items of an instance.
+pub(crate) fn children<'a>(
+    alloc: Global,
+    part: Part,
+    instance: &'a Value,
+) -> Result<Vec<Child<'a>>, AllocError>
+    ensures { IfOk result (λ cs. children_of cs.items ≡ children part (view instance.now)) }
+{
+    match part {
+        Part::Members => member_children(alloc, instance),
+        Part::Items => item_children(alloc, instance),
+    }
+}
+
+#[tactic(auto, using(crate::proofs::Items::object_members, crate::proofs::Items::no_object_members))]
+fn member_children<'a>(alloc: Global, instance: &'a Value) -> Result<Vec<Child<'a>>, AllocError>
+    ensures { IfOk result (λ cs. children_of cs.items ≡ children Part.Members (view instance.now)) }
+{
+    let mut children = Vec::new(alloc);
+    let Some(members) = instance.as_object() else {
+        return Ok(children);
+    };
+    for (name, value) in members.iter() {
+        let step = Step::Key(name.as_str());
+        children.push(Child { step, value })?;
+    }
+    Ok(children)
+}
+
+#[tactic(auto, using(crate::proofs::Items::array_items, crate::proofs::Items::no_array_items))]
+fn item_children<'a>(alloc: Global, instance: &'a Value) -> Result<Vec<Child<'a>>, AllocError>
+    ensures { IfOk result (λ cs. children_of cs.items ≡ children Part.Items (view instance.now)) }
+{
+    let mut children = Vec::new(alloc);
+    let Some(items) = instance.as_array() else {
+        return Ok(children);
+    };
+    for value in items {
+        let step = Step::Place(children.len());
+        children.push(Child { step, value })?;
+    }
+    Ok(children)
+}
+
+/// Each schema of each of some children.
+pub(crate) fn on_each<'a>(
+    alloc: Global,
+    branches: &'a [Branch],
+    children: &[Child<'a>],
+) -> Result<Vec<Target<'a>>, AllocError>
+    ensures { IfOk result (λ ts. targets_of ts.items
+        ≡ flat_map (on_each (children_of children.now)) (branches_of branches.now)) }
+{
+    let mut targets = Vec::new(alloc);
+    for branch in branches {
+        push_each(branch, children, &mut targets)?;
+    }
+    Ok(targets)
+}
+
+fn push_each<'a>(
+    branch: &'a Branch,
+    children: &[Child<'a>],
+    targets: &mut Vec<Target<'a>>,
+) -> Result<(), AllocError>
+    ensures { OnOk result (targets_of targets.new.items ≡ targets_of targets.old.items
+        ++ on_each (children_of children.now) (branch_of branch.now)) }
+{
+    for child in children {
+        targets.push(Target::of(branch, child.value, Some(child.step)))?;
+    }
+    Ok(())
+}
+
+/// Takes the child to which a step leads from those that are left.
+pub(crate) fn take_at(step: Step<'_>, left: &mut Vec<Child<'_>>)
+    ensures { Takes (λ s. step_of step.entry ≡ s) left.old.items left.new.items }
+{
+    left.retain(|child| !child.step.is(step));
+}
+
+/// Takes the members, or the items.
+pub(crate) fn take_part(part: Part, left: &mut Vec<Child<'_>>)
+    ensures { Takes (λ s. is_of_part part s ≡ true) left.old.items left.new.items }
+{
+    left.retain(|child| !child.step.is_of(part));
+}
+
+/// Those of some targets that are valid.
+pub(crate) fn valid_of<'a>(
+    alloc: Global,
+    targets: Vec<Target<'a>>,
+    verdicts: &[bool],
+) -> Result<Vec<Target<'a>>, AllocError>
+    ensures { IfOk result (λ ts. targets_of ts.items
+        ≡ valid_of (targets_of targets.entry.items) verdicts.now) }
+{
+    let mut valid = Vec::new(alloc);
+    for (target, verdict) in targets.into_iter().zip(verdicts) {
+        if *verdict {
+            valid.push(target)?;
+        }
+    }
+    Ok(valid)
 }
 
 /// Each schema of the keys.

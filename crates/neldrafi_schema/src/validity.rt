@@ -1,28 +1,23 @@
 //! Whether an instance has no errors.
 
-ghost use Rattle.std.specs.Prelude.{◌↔◌, ◌≡◌, ◌++◌, ◌<◌, ◌≤◌, ℕ, IfOk, IsTrue, List, OnOk, [], drop, if◌then◌else◌, length, map, option_map, string_bytes, true};
-ghost use Rattle.std.specs.List.{AllByRecursion, filter, flat_map, list_all, list_any};
+ghost use Rattle.std.specs.Prelude.{IfOk, IsTrue, List, None, OnOk, Some, [], if◌then◌else◌, length, true, ℕ, ◌<◌, ◌↔◌, ◌≡◌, ◌≤◌};
+ghost use Rattle.std.specs.List.{AllByRecursion, list_all};
 ghost use Rattle.serde_json.specs.View.{view};
 ghost use Rattle.strkw_report.specs.declared.error.Site.{Site};
 ghost use Rattle.strkw_keywords.specs.Meanings.{Lists};
-ghost use Rattle.strkw_keywords.specs.Validators.{assertions_of};
-ghost use Rattle.neldrafi_schema.specs.Errors.{unexpected_items, unexpected_members};
-ghost use Rattle.neldrafi_schema.specs.Meaning.{AreVerdicts, KeywordReports, Reports};
-ghost use Rattle.neldrafi_schema.specs.Refusals.{ends, in_place, is_in_place};
-ghost use Rattle.neldrafi_schema.specs.Rules.{applied, first_of, is_matched, is_named, kinds, leads_to, members_in, none_allowed, on_itself, on_matched, on_members, other_members_in, placed_items, tested};
+ghost use Rattle.neldrafi_schema.specs.Meaning.{AreUnevaluated, AreVerdicts, BesideEvaluates, Evaluates, KeywordEvaluates, KeywordReports, Reports, TargetEvaluates};
+ghost use Rattle.neldrafi_schema.specs.Refusals.{ends, in_place, is_in_place, keywords_end};
+ghost use Rattle.neldrafi_schema.specs.Rules.{part_of, tested};
 ghost use Rattle.neldrafi_schema.specs.machine.Closures.{MayTest, Tests};
-ghost use Rattle.neldrafi_schema.specs.machine.Compiled.{branch_of, branches_of, keyword_of, keywords_of, rule_of, ruled_of, schemas_of, segment_of, targets_of};
+ghost use Rattle.neldrafi_schema.specs.machine.Compiled.{branches_of, children_of, keyword_of, keywords_of, rule_of, ruled_of, schemas_of, target_of, targets_of};
 ghost use Rattle.neldrafi_schema.specs.machine.Found.{kinds_of};
-ghost use Rattle.neldrafi_schema.specs.machine.Ready.{IsKeywordReady, IsPatternReady, IsReady, IsRuledReady, steps_for};
+ghost use Rattle.neldrafi_schema.specs.machine.Left.{AreFindings, AreSpans, EndsHere, Takes};
+ghost use Rattle.neldrafi_schema.specs.machine.Ready.{IsKeywordReady, IsReady, IsRuledReady, steps_for};
 
 use crate::error::ErrorKind;
-use crate::kinds::{all_are_valid, only, own_kinds};
-use crate::node::{Body, Branch, Keyword, Node, Rule, Ruled};
-use crate::segment::{Segment, Step};
-use crate::targets::{
-    Target, on_children, on_items, on_itself, on_names, placed_count, push_member, tested,
-    where_present,
-};
+use crate::kinds::left_kinds;
+use crate::node::{Body, Keyword, Node, Part, Rule, Ruled};
+use crate::targets::{Child, Target, children, on_each, take_at, take_part, tested, valid_of};
 use serde_json::Value;
 use std::alloc::{AllocError, Global};
 use strkw_keywords::Validator;
@@ -40,8 +35,7 @@ impl<E: RegexEngine, T: Fn(&Validator<E>, Option<&str>) -> Result<bool, AllocErr
     E,
     T,
 > {
-    // Whether an instance has no errors by the schema of a number, whose ways that do not enter the instance end within
-    // so many steps.
+    // Whether an instance has no errors by a schema, whose ways that do not enter it end within so many steps.
     #[cycle(accepts)]
     pub(crate) fn accepts(
         &self,
@@ -54,6 +48,7 @@ impl<E: RegexEngine, T: Fn(&Validator<E>, Option<&str>) -> Result<bool, AllocErr
             self.now.nodes.now }
         requires answers { (lists : Lists)
             × Tests T.Fn self.now.text_accepts.now E.outcome lists }
+        requires few { steps ≤ length self.now.nodes.now }
         requires end { ends (schemas_of E.outcome self.now.nodes.now) steps number ≡ true }
         ensures { (lists : Lists) → Tests T.Fn self.now.text_accepts.now E.outcome lists
             → IfOk result (λ b. (k : ℕ) (site : Site)
@@ -87,16 +82,20 @@ impl<E: RegexEngine, T: Fn(&Validator<E>, Option<&str>) -> Result<bool, AllocErr
             self.now.nodes.now }
         requires answers { (lists : Lists)
             × Tests T.Fn self.now.text_accepts.now E.outcome lists }
+        requires few { steps ≤ length self.now.nodes.now }
         requires this { IsKeywordReady E.outcome (MayTest T.Fn self.now.text_accepts.now)
             (length self.now.nodes.now) keyword.now }
         requires others { AllByRecursion (IsKeywordReady E.outcome
             (MayTest T.Fn self.now.text_accepts.now) (length self.now.nodes.now)) beside.now }
+        requires ends { keywords_end (ends (schemas_of E.outcome self.now.nodes.now) steps)
+            (keywords_of E.outcome beside.now) ≡ true }
         requires end { list_all (ends (schemas_of E.outcome self.now.nodes.now) steps)
             (in_place (keyword_of E.outcome keyword.now)) ≡ true }
         ensures { (lists : Lists) → Tests T.Fn self.now.text_accepts.now E.outcome lists
             → IfOk result (λ b. (k : ℕ) (location : List ℕ) (site : Site)
             → steps_for (length self.now.nodes.now) (view instance.now) steps ≤ k
             → IsTrue b ↔ KeywordReports
+            (schemas_of E.outcome self.now.nodes.now)
             (Reports (schemas_of E.outcome self.now.nodes.now) lists k) lists location
             (keywords_of E.outcome beside.now) (keyword_of E.outcome keyword.now)
             (view instance.now) site []) }
@@ -120,6 +119,316 @@ impl<E: RegexEngine, T: Fn(&Validator<E>, Option<&str>) -> Result<bool, AllocErr
             self.now.nodes.now }
         requires answers { (lists : Lists)
             × Tests T.Fn self.now.text_accepts.now E.outcome lists }
+        requires few { steps ≤ length self.now.nodes.now }
+        requires this { IsRuledReady E.outcome (MayTest T.Fn self.now.text_accepts.now)
+            (length self.now.nodes.now) ruled.now }
+        requires others { AllByRecursion (IsKeywordReady E.outcome
+            (MayTest T.Fn self.now.text_accepts.now) (length self.now.nodes.now)) beside.now }
+        requires ends { keywords_end (ends (schemas_of E.outcome self.now.nodes.now) steps)
+            (keywords_of E.outcome beside.now) ≡ true }
+        requires end { list_all (ends (schemas_of E.outcome self.now.nodes.now) steps)
+            (in_place (ruled_of E.outcome ruled.now)) ≡ true }
+        ensures { (lists : Lists) → Tests T.Fn self.now.text_accepts.now E.outcome lists
+            → IfOk result (λ b. (k : ℕ) (location : List ℕ) (site : Site)
+            → steps_for (length self.now.nodes.now) (view instance.now) steps ≤ k
+            → IsTrue b ↔ KeywordReports
+            (schemas_of E.outcome self.now.nodes.now)
+            (Reports (schemas_of E.outcome self.now.nodes.now) lists k) lists location
+            (keywords_of E.outcome beside.now) (ruled_of E.outcome ruled.now)
+            (view instance.now) site []) }
+    {
+        let (kinds, targets) = self.findings(alloc, beside, ruled, steps, instance)?;
+        if !kinds.is_empty() {
+            return Ok(false);
+        }
+        let left = self.steps_below(ruled, steps);
+        for target in &targets {
+            if !self.accepts(alloc, target.schema, left, target.value.as_value())? {
+                return Ok(false);
+            }
+        }
+        Ok(true)
+    }
+
+    // What a keyword reports itself, and the values of which its schemas have to report all errors.
+    #[cycle(accepts)]
+    pub(crate) fn findings<'a>(
+        &self,
+        alloc: Global,
+        beside: &[Keyword<E>],
+        ruled: &'a Ruled<E>,
+        steps: usize,
+        instance: &'a Value,
+    ) -> Result<(Vec<ErrorKind>, Vec<Target<'a>>), AllocError>
+        requires ready { IsReady E.outcome (MayTest T.Fn self.now.text_accepts.now)
+            self.now.nodes.now }
+        requires answers { (lists : Lists)
+            × Tests T.Fn self.now.text_accepts.now E.outcome lists }
+        requires few { steps ≤ length self.now.nodes.now }
+        requires this { IsRuledReady E.outcome (MayTest T.Fn self.now.text_accepts.now)
+            (length self.now.nodes.now) ruled.now }
+        requires others { AllByRecursion (IsKeywordReady E.outcome
+            (MayTest T.Fn self.now.text_accepts.now) (length self.now.nodes.now)) beside.now }
+        requires ends { keywords_end (ends (schemas_of E.outcome self.now.nodes.now) steps)
+            (keywords_of E.outcome beside.now) ≡ true }
+        requires end { list_all (ends (schemas_of E.outcome self.now.nodes.now) steps)
+            (in_place (ruled_of E.outcome ruled.now)) ≡ true }
+        ensures { (lists : Lists) → Tests T.Fn self.now.text_accepts.now E.outcome lists
+            → IfOk result (λ found. (k : ℕ) (site : Site)
+            → steps_for (length self.now.nodes.now) (view instance.now) steps ≤ k
+            → AreFindings (schemas_of E.outcome self.now.nodes.now)
+            (Reports (schemas_of E.outcome self.now.nodes.now) lists k)
+            (keywords_of E.outcome beside.now) (ruled_of E.outcome ruled.now)
+            (view instance.now) site (kinds_of found.0.items) (targets_of found.1.items)) }
+    {
+        if let Rule::Unevaluated(part) = ruled.rule {
+            let left = self.left(alloc, beside, part, steps, instance)?;
+            let kinds = left_kinds(alloc, part, &ruled.branches, &left)?;
+            return Ok((kinds, on_each(alloc, &ruled.branches, &left)?));
+        }
+        let verdicts = self.verdicts(alloc, ruled, steps, instance)?;
+        let kinds = self.kinds(alloc, beside, ruled, instance, &verdicts)?;
+        Ok((
+            kinds,
+            self.applied(alloc, beside, ruled, instance, &verdicts)?,
+        ))
+    }
+
+    // The members or items of an instance that no keyword evaluates.
+    #[cycle(accepts)]
+    fn left<'a>(
+        &self,
+        alloc: Global,
+        keywords: &[Keyword<E>],
+        part: Part,
+        steps: usize,
+        instance: &'a Value,
+    ) -> Result<Vec<Child<'a>>, AllocError>
+        requires ready { IsReady E.outcome (MayTest T.Fn self.now.text_accepts.now)
+            self.now.nodes.now }
+        requires answers { (lists : Lists)
+            × Tests T.Fn self.now.text_accepts.now E.outcome lists }
+        requires few { steps ≤ length self.now.nodes.now }
+        requires others { AllByRecursion (IsKeywordReady E.outcome
+            (MayTest T.Fn self.now.text_accepts.now) (length self.now.nodes.now)) keywords.now }
+        requires ends { keywords_end (ends (schemas_of E.outcome self.now.nodes.now) steps)
+            (keywords_of E.outcome keywords.now) ≡ true }
+        ensures { (lists : Lists) → Tests T.Fn self.now.text_accepts.now E.outcome lists
+            → IfOk result (λ left. (k : ℕ)
+            → steps_for (length self.now.nodes.now) (view instance.now) steps ≤ k
+            → AreUnevaluated (schemas_of E.outcome self.now.nodes.now)
+            (Reports (schemas_of E.outcome self.now.nodes.now) lists k)
+            (keywords_of E.outcome keywords.now) (view instance.now) (Some part)
+            (children_of left.items)) }
+    {
+        let mut left = children(alloc, part, instance)?;
+        for keyword in keywords {
+            self.take_beside(alloc, keywords, keyword, steps, instance, &mut left)?;
+        }
+        Ok(left)
+    }
+
+    // Takes from what is left what a keyword beside evaluates.
+    #[cycle(accepts)]
+    fn take_beside(
+        &self,
+        alloc: Global,
+        beside: &[Keyword<E>],
+        keyword: &Keyword<E>,
+        steps: usize,
+        instance: &Value,
+        left: &mut Vec<Child<'_>>,
+    ) -> Result<(), AllocError>
+        requires ready { IsReady E.outcome (MayTest T.Fn self.now.text_accepts.now)
+            self.now.nodes.now }
+        requires answers { (lists : Lists)
+            × Tests T.Fn self.now.text_accepts.now E.outcome lists }
+        requires few { steps ≤ length self.now.nodes.now }
+        requires this { IsKeywordReady E.outcome (MayTest T.Fn self.now.text_accepts.now)
+            (length self.now.nodes.now) keyword.now }
+        requires others { AllByRecursion (IsKeywordReady E.outcome
+            (MayTest T.Fn self.now.text_accepts.now) (length self.now.nodes.now)) beside.now }
+        requires end { list_all (ends (schemas_of E.outcome self.now.nodes.now) steps)
+            (in_place (keyword_of E.outcome keyword.now)) ≡ true }
+        ensures { (lists : Lists) → Tests T.Fn self.now.text_accepts.now E.outcome lists
+            → OnOk result ((k : ℕ)
+            → steps_for (length self.now.nodes.now) (view instance.now) steps ≤ k
+            → Takes (λ s. BesideEvaluates (schemas_of E.outcome self.now.nodes.now)
+            (Reports (schemas_of E.outcome self.now.nodes.now) lists k)
+            (keywords_of E.outcome beside.now) (view instance.now) s
+            (keyword_of E.outcome keyword.now)) left.old.items left.new.items) }
+    {
+        let Keyword::Rule(ruled) = keyword else {
+            return Ok(());
+        };
+        match ruled.rule {
+            Rule::Unevaluated(_) => Ok(()),
+            _ => self.take_evaluated(alloc, beside, ruled, steps, instance, left),
+        }
+    }
+
+    // Takes from what is left what a keyword evaluates that does not speak of it.
+    #[cycle(accepts)]
+    fn take_evaluated(
+        &self,
+        alloc: Global,
+        beside: &[Keyword<E>],
+        ruled: &Ruled<E>,
+        steps: usize,
+        instance: &Value,
+        left: &mut Vec<Child<'_>>,
+    ) -> Result<(), AllocError>
+        requires ready { IsReady E.outcome (MayTest T.Fn self.now.text_accepts.now)
+            self.now.nodes.now }
+        requires answers { (lists : Lists)
+            × Tests T.Fn self.now.text_accepts.now E.outcome lists }
+        requires few { steps ≤ length self.now.nodes.now }
+        requires this { IsRuledReady E.outcome (MayTest T.Fn self.now.text_accepts.now)
+            (length self.now.nodes.now) ruled.now }
+        requires others { AllByRecursion (IsKeywordReady E.outcome
+            (MayTest T.Fn self.now.text_accepts.now) (length self.now.nodes.now)) beside.now }
+        requires end { list_all (ends (schemas_of E.outcome self.now.nodes.now) steps)
+            (in_place (ruled_of E.outcome ruled.now)) ≡ true }
+        requires speaks { part_of (rule_of E.outcome ruled.now.rule) ≡ None }
+        ensures { (lists : Lists) → Tests T.Fn self.now.text_accepts.now E.outcome lists
+            → OnOk result ((j k : ℕ) → steps ≤ j
+            → steps_for (length self.now.nodes.now) (view instance.now) steps ≤ k
+            → Takes (λ s. KeywordEvaluates
+            (Reports (schemas_of E.outcome self.now.nodes.now) lists k)
+            (Evaluates (schemas_of E.outcome self.now.nodes.now)
+            (Reports (schemas_of E.outcome self.now.nodes.now) lists k) s j)
+            (keywords_of E.outcome beside.now) (view instance.now) s
+            (ruled_of E.outcome ruled.now)) left.old.items left.new.items) }
+    {
+        for target in &self.spans(alloc, beside, ruled, steps, instance)? {
+            self.take_by_target(alloc, target, steps, instance, left)?;
+        }
+        Ok(())
+    }
+
+    // Takes from what is left a target, or what its schema evaluates of the instance itself.
+    #[cycle(accepts)]
+    fn take_by_target(
+        &self,
+        alloc: Global,
+        target: &Target<'_>,
+        steps: usize,
+        instance: &Value,
+        left: &mut Vec<Child<'_>>,
+    ) -> Result<(), AllocError>
+        requires ready { IsReady E.outcome (MayTest T.Fn self.now.text_accepts.now)
+            self.now.nodes.now }
+        requires answers { (lists : Lists)
+            × Tests T.Fn self.now.text_accepts.now E.outcome lists }
+        requires few { steps ≤ length self.now.nodes.now }
+        requires end { EndsHere (schemas_of E.outcome self.now.nodes.now) steps
+            (view instance.now) (target_of target.now) }
+        ensures { (lists : Lists) → Tests T.Fn self.now.text_accepts.now E.outcome lists
+            → OnOk result ((j k : ℕ) → steps ≤ j
+            → steps_for (length self.now.nodes.now) (view instance.now) steps ≤ k
+            → Takes (λ s. TargetEvaluates (Evaluates (schemas_of E.outcome self.now.nodes.now)
+            (Reports (schemas_of E.outcome self.now.nodes.now) lists k) s j) s
+            (target_of target.now)) left.old.items left.new.items) }
+    {
+        match target.inside {
+            Some(step) => {
+                take_at(step, left);
+                Ok(())
+            }
+            None => self.take_by_schema(alloc, target.schema, steps, instance, left),
+        }
+    }
+
+    // Takes from what is left what the schema of a number evaluates.
+    #[cycle(accepts)]
+    fn take_by_schema(
+        &self,
+        alloc: Global,
+        number: usize,
+        steps: usize,
+        instance: &Value,
+        left: &mut Vec<Child<'_>>,
+    ) -> Result<(), AllocError>
+        requires ready { IsReady E.outcome (MayTest T.Fn self.now.text_accepts.now)
+            self.now.nodes.now }
+        requires answers { (lists : Lists)
+            × Tests T.Fn self.now.text_accepts.now E.outcome lists }
+        requires few { steps ≤ length self.now.nodes.now }
+        requires end { ends (schemas_of E.outcome self.now.nodes.now) steps number ≡ true }
+        ensures { (lists : Lists) → Tests T.Fn self.now.text_accepts.now E.outcome lists
+            → OnOk result ((j k : ℕ) → steps ≤ j
+            → steps_for (length self.now.nodes.now) (view instance.now) steps ≤ k
+            → Takes (λ s. Evaluates (schemas_of E.outcome self.now.nodes.now)
+            (Reports (schemas_of E.outcome self.now.nodes.now) lists k) s j number
+            (view instance.now)) left.old.items left.new.items) }
+    {
+        let Body::Keywords(keywords) = &self.nodes[number].body else {
+            return Ok(());
+        };
+        for keyword in keywords {
+            self.take_by_keyword(alloc, keywords, keyword, steps - 1, instance, left)?;
+        }
+        Ok(())
+    }
+
+    #[cycle(accepts)]
+    fn take_by_keyword(
+        &self,
+        alloc: Global,
+        beside: &[Keyword<E>],
+        keyword: &Keyword<E>,
+        steps: usize,
+        instance: &Value,
+        left: &mut Vec<Child<'_>>,
+    ) -> Result<(), AllocError>
+        requires ready { IsReady E.outcome (MayTest T.Fn self.now.text_accepts.now)
+            self.now.nodes.now }
+        requires answers { (lists : Lists)
+            × Tests T.Fn self.now.text_accepts.now E.outcome lists }
+        requires few { steps ≤ length self.now.nodes.now }
+        requires this { IsKeywordReady E.outcome (MayTest T.Fn self.now.text_accepts.now)
+            (length self.now.nodes.now) keyword.now }
+        requires others { AllByRecursion (IsKeywordReady E.outcome
+            (MayTest T.Fn self.now.text_accepts.now) (length self.now.nodes.now)) beside.now }
+        requires end { list_all (ends (schemas_of E.outcome self.now.nodes.now) steps)
+            (in_place (keyword_of E.outcome keyword.now)) ≡ true }
+        ensures { (lists : Lists) → Tests T.Fn self.now.text_accepts.now E.outcome lists
+            → OnOk result ((j k : ℕ) → steps ≤ j
+            → steps_for (length self.now.nodes.now) (view instance.now) steps ≤ k
+            → Takes (λ s. KeywordEvaluates
+            (Reports (schemas_of E.outcome self.now.nodes.now) lists k)
+            (Evaluates (schemas_of E.outcome self.now.nodes.now)
+            (Reports (schemas_of E.outcome self.now.nodes.now) lists k) s j)
+            (keywords_of E.outcome beside.now) (view instance.now) s
+            (keyword_of E.outcome keyword.now)) left.old.items left.new.items) }
+    {
+        let Keyword::Rule(ruled) = keyword else {
+            return Ok(());
+        };
+        match ruled.rule {
+            Rule::Unevaluated(part) => {
+                take_part(part, left);
+                Ok(())
+            }
+            _ => self.take_evaluated(alloc, beside, ruled, steps, instance, left),
+        }
+    }
+
+    // The targets of a keyword that count for what is evaluated.
+    #[cycle(accepts)]
+    fn spans<'a>(
+        &self,
+        alloc: Global,
+        beside: &[Keyword<E>],
+        ruled: &'a Ruled<E>,
+        steps: usize,
+        instance: &'a Value,
+    ) -> Result<Vec<Target<'a>>, AllocError>
+        requires ready { IsReady E.outcome (MayTest T.Fn self.now.text_accepts.now)
+            self.now.nodes.now }
+        requires answers { (lists : Lists)
+            × Tests T.Fn self.now.text_accepts.now E.outcome lists }
+        requires few { steps ≤ length self.now.nodes.now }
         requires this { IsRuledReady E.outcome (MayTest T.Fn self.now.text_accepts.now)
             (length self.now.nodes.now) ruled.now }
         requires others { AllByRecursion (IsKeywordReady E.outcome
@@ -127,27 +436,20 @@ impl<E: RegexEngine, T: Fn(&Validator<E>, Option<&str>) -> Result<bool, AllocErr
         requires end { list_all (ends (schemas_of E.outcome self.now.nodes.now) steps)
             (in_place (ruled_of E.outcome ruled.now)) ≡ true }
         ensures { (lists : Lists) → Tests T.Fn self.now.text_accepts.now E.outcome lists
-            → IfOk result (λ b. (k : ℕ) (location : List ℕ) (site : Site)
+            → IfOk result (λ found. (k : ℕ)
             → steps_for (length self.now.nodes.now) (view instance.now) steps ≤ k
-            → IsTrue b ↔ KeywordReports
-            (Reports (schemas_of E.outcome self.now.nodes.now) lists k) lists location
+            → AreSpans (Reports (schemas_of E.outcome self.now.nodes.now) lists k)
             (keywords_of E.outcome beside.now) (ruled_of E.outcome ruled.now)
-            (view instance.now) site []) }
+            (view instance.now) (targets_of found.items)) }
     {
         let verdicts = self.verdicts(alloc, ruled, steps, instance)?;
-        if !self
-            .kinds(alloc, beside, ruled, instance, &verdicts)?
-            .is_empty()
-        {
-            return Ok(false);
+        if ruled.rule.counts_nothing() {
+            return Ok(Vec::new(alloc));
         }
-        let left = self.steps_below(ruled, steps);
-        for target in &self.applied(alloc, beside, ruled, instance, &verdicts)? {
-            if !self.accepts(alloc, target.schema, left, target.value.as_value())? {
-                return Ok(false);
-            }
-        }
-        Ok(true)
+        let tested = tested(alloc, &ruled.rule, &ruled.branches, instance)?;
+        let mut spans = valid_of(alloc, tested, &verdicts)?;
+        spans.append(&mut self.applied(alloc, beside, ruled, instance, &verdicts)?)?;
+        Ok(spans)
     }
 
     // Whether each value that a keyword tests has no errors.
@@ -163,6 +465,7 @@ impl<E: RegexEngine, T: Fn(&Validator<E>, Option<&str>) -> Result<bool, AllocErr
             self.now.nodes.now }
         requires answers { (lists : Lists)
             × Tests T.Fn self.now.text_accepts.now E.outcome lists }
+        requires few { steps ≤ length self.now.nodes.now }
         requires this { IsRuledReady E.outcome (MayTest T.Fn self.now.text_accepts.now)
             (length self.now.nodes.now) ruled.now }
         requires end { list_all (ends (schemas_of E.outcome self.now.nodes.now) steps)
@@ -193,324 +496,4 @@ impl<E: RegexEngine, T: Fn(&Validator<E>, Option<&str>) -> Result<bool, AllocErr
             self.nodes.len()
         }
     }
-
-    // What a keyword reports itself, by the verdicts.
-    pub(crate) fn kinds(
-        &self,
-        alloc: Global,
-        beside: &[Keyword<E>],
-        ruled: &Ruled<E>,
-        instance: &Value,
-        verdicts: &[bool],
-    ) -> Result<Vec<ErrorKind>, AllocError>
-        requires others { AllByRecursion (IsKeywordReady E.outcome
-            (MayTest T.Fn self.now.text_accepts.now) (length self.now.nodes.now)) beside.now }
-        ensures { (lists : Lists) → Tests T.Fn self.now.text_accepts.now E.outcome lists
-            → IfOk result (λ found. kinds_of found.items
-            ≡ kinds (keywords_of E.outcome beside.now) (string_bytes ruled.now.name)
-            (rule_of E.outcome ruled.now.rule) (view instance.now) verdicts.now) }
-    {
-        match &ruled.rule {
-            Rule::NoOtherMembers => self.unexpected_members(alloc, beside, instance),
-            Rule::NoOtherItems => unexpected_items(alloc, placed_count(beside), instance),
-            rule => own_kinds(alloc, rule, ruled.name.as_str(), instance, verdicts),
-        }
-    }
-
-    fn unexpected_members(
-        &self,
-        alloc: Global,
-        beside: &[Keyword<E>],
-        instance: &Value,
-    ) -> Result<Vec<ErrorKind>, AllocError>
-        requires others { AllByRecursion (IsKeywordReady E.outcome
-            (MayTest T.Fn self.now.text_accepts.now) (length self.now.nodes.now)) beside.now }
-        ensures { (lists : Lists) → Tests T.Fn self.now.text_accepts.now E.outcome lists
-            → IfOk result (λ found. kinds_of found.items
-            ≡ none_allowed unexpected_members (map (λ m. m.0) (other_members_in
-            (keywords_of E.outcome beside.now) (view instance.now)))) }
-    {
-        let unexpected = self.other_names(alloc, beside, instance)?;
-        if unexpected.is_empty() {
-            return Ok(Vec::new(alloc));
-        }
-        only(alloc, ErrorKind::AdditionalProperties { unexpected })
-    }
-
-    // The names of the members to which no rule beside leads.
-    fn other_names(
-        &self,
-        alloc: Global,
-        beside: &[Keyword<E>],
-        instance: &Value,
-    ) -> Result<Vec<String>, AllocError>
-        requires others { AllByRecursion (IsKeywordReady E.outcome
-            (MayTest T.Fn self.now.text_accepts.now) (length self.now.nodes.now)) beside.now }
-        ensures { (lists : Lists) → Tests T.Fn self.now.text_accepts.now E.outcome lists
-            → IfOk result (λ names. map string_bytes names.items ≡ map (λ m. m.0)
-            (other_members_in (keywords_of E.outcome beside.now) (view instance.now))) }
-    {
-        let mut names = Vec::new(alloc);
-        let Some(members) = instance.as_object() else {
-            return Ok(names);
-        };
-        for (name, _) in members.iter() {
-            if !self.is_led_to(beside, name.as_str())? {
-                names.push(name.clone()?)?;
-            }
-        }
-        Ok(names)
-    }
-
-    // The values of which a keyword's schemas have to report all errors, by the verdicts.
-    pub(crate) fn applied<'a>(
-        &self,
-        alloc: Global,
-        beside: &[Keyword<E>],
-        ruled: &'a Ruled<E>,
-        instance: &'a Value,
-        verdicts: &[bool],
-    ) -> Result<Vec<Target<'a>>, AllocError>
-        requires this { IsRuledReady E.outcome (MayTest T.Fn self.now.text_accepts.now)
-            (length self.now.nodes.now) ruled.now }
-        requires others { AllByRecursion (IsKeywordReady E.outcome
-            (MayTest T.Fn self.now.text_accepts.now) (length self.now.nodes.now)) beside.now }
-        ensures { (lists : Lists) → Tests T.Fn self.now.text_accepts.now E.outcome lists
-            → IfOk result (λ found. targets_of found.items
-            ≡ applied (keywords_of E.outcome beside.now) (rule_of E.outcome ruled.now.rule)
-            (branches_of ruled.now.branches.items) (view instance.now) verdicts.now) }
-    {
-        let branches = ruled.branches.as_slice();
-        match &ruled.rule {
-            Rule::Reference | Rule::AllOf => on_itself(alloc, branches, instance),
-            Rule::Dependent(_) => where_present(alloc, branches, instance),
-            Rule::Properties | Rule::Placed => on_children(alloc, branches, instance),
-            Rule::Matching(patterns) => self.on_matched(alloc, patterns, branches, instance),
-            Rule::OtherMembers => self.on_others(alloc, beside, branches, instance),
-            Rule::MemberNames => on_names(alloc, branches, instance),
-            Rule::OtherItems => on_items(alloc, branches, instance, placed_count(beside)),
-            Rule::WhereValid => on_first(alloc, all_are_valid(verdicts), branches, instance),
-            Rule::WhereNotValid => on_first(alloc, !all_are_valid(verdicts), branches, instance),
-            _ => Ok(Vec::new(alloc)),
-        }
-    }
-
-    // Each schema of the members whose keys its pattern matches.
-    fn on_matched<'a>(
-        &self,
-        alloc: Global,
-        patterns: &[Validator<E>],
-        branches: &'a [Branch],
-        instance: &'a Value,
-    ) -> Result<Vec<Target<'a>>, AllocError>
-        requires { AllByRecursion (IsPatternReady E.outcome
-            (MayTest T.Fn self.now.text_accepts.now) (length self.now.nodes.now)) patterns.now }
-        ensures { (lists : Lists) → Tests T.Fn self.now.text_accepts.now E.outcome lists
-            → IfOk result (λ found. targets_of found.items
-            ≡ on_matched (view instance.now) (map (assertions_of E.outcome) patterns.now)
-            (branches_of branches.now)) }
-    {
-        let mut targets = Vec::new(alloc);
-        for (pattern, branch) in patterns.iter().zip(branches) {
-            self.push_matched(pattern, branch, instance, &mut targets)?;
-        }
-        Ok(targets)
-    }
-
-    fn push_matched<'a>(
-        &self,
-        pattern: &Validator<E>,
-        branch: &'a Branch,
-        instance: &'a Value,
-        targets: &mut Vec<Target<'a>>,
-    ) -> Result<(), AllocError>
-        requires { IsPatternReady E.outcome (MayTest T.Fn self.now.text_accepts.now)
-            (length self.now.nodes.now) pattern.now }
-        ensures { (lists : Lists) → Tests T.Fn self.now.text_accepts.now E.outcome lists
-            → OnOk result (targets_of targets.new.items ≡ targets_of targets.old.items
-            ++ on_members (filter (λ m. is_matched m.0 (assertions_of E.outcome pattern.now))
-            (members_in (view instance.now))) (branch_of branch.now)) }
-    {
-        let Some(members) = instance.as_object() else {
-            return Ok(());
-        };
-        for (name, value) in members.iter() {
-            if self.matches(pattern, name.as_str())? {
-                push_member(branch, name.as_str(), value, targets)?;
-            }
-        }
-        Ok(())
-    }
-
-    // Each schema of the members to which no rule beside leads.
-    fn on_others<'a>(
-        &self,
-        alloc: Global,
-        beside: &[Keyword<E>],
-        branches: &'a [Branch],
-        instance: &'a Value,
-    ) -> Result<Vec<Target<'a>>, AllocError>
-        requires others { AllByRecursion (IsKeywordReady E.outcome
-            (MayTest T.Fn self.now.text_accepts.now) (length self.now.nodes.now)) beside.now }
-        ensures { (lists : Lists) → Tests T.Fn self.now.text_accepts.now E.outcome lists
-            → IfOk result (λ found. targets_of found.items
-            ≡ flat_map (on_members (other_members_in (keywords_of E.outcome beside.now)
-            (view instance.now))) (branches_of branches.now)) }
-    {
-        let mut targets = Vec::new(alloc);
-        for branch in branches {
-            self.push_others(beside, branch, instance, &mut targets)?;
-        }
-        Ok(targets)
-    }
-
-    fn push_others<'a>(
-        &self,
-        beside: &[Keyword<E>],
-        branch: &'a Branch,
-        instance: &'a Value,
-        targets: &mut Vec<Target<'a>>,
-    ) -> Result<(), AllocError>
-        requires others { AllByRecursion (IsKeywordReady E.outcome
-            (MayTest T.Fn self.now.text_accepts.now) (length self.now.nodes.now)) beside.now }
-        ensures { (lists : Lists) → Tests T.Fn self.now.text_accepts.now E.outcome lists
-            → OnOk result (targets_of targets.new.items ≡ targets_of targets.old.items
-            ++ on_members (other_members_in (keywords_of E.outcome beside.now)
-            (view instance.now)) (branch_of branch.now)) }
-    {
-        let Some(members) = instance.as_object() else {
-            return Ok(());
-        };
-        for (name, value) in members.iter() {
-            if !self.is_led_to(beside, name.as_str())? {
-                push_member(branch, name.as_str(), value, targets)?;
-            }
-        }
-        Ok(())
-    }
-
-    // Whether a rule leads to the member of a name.
-    fn is_led_to(&self, beside: &[Keyword<E>], name: &str) -> Result<bool, AllocError>
-        requires others { AllByRecursion (IsKeywordReady E.outcome
-            (MayTest T.Fn self.now.text_accepts.now) (length self.now.nodes.now)) beside.now }
-        ensures { (lists : Lists) → Tests T.Fn self.now.text_accepts.now E.outcome lists
-            → IfOk result (λ b. b
-            ≡ list_any (leads_to name.now) (keywords_of E.outcome beside.now)) }
-    {
-        for keyword in beside {
-            if self.leads_to(keyword, name)? {
-                return Ok(true);
-            }
-        }
-        Ok(false)
-    }
-
-    fn leads_to(&self, keyword: &Keyword<E>, name: &str) -> Result<bool, AllocError>
-        requires { IsKeywordReady E.outcome (MayTest T.Fn self.now.text_accepts.now)
-            (length self.now.nodes.now) keyword.now }
-        ensures { (lists : Lists) → Tests T.Fn self.now.text_accepts.now E.outcome lists
-            → IfOk result (λ b. b ≡ leads_to name.now (keyword_of E.outcome keyword.now)) }
-    {
-        let Keyword::Rule(ruled) = keyword else {
-            return Ok(false);
-        };
-        match &ruled.rule {
-            Rule::Properties => Ok(has_branch(&ruled.branches, name)),
-            Rule::Matching(patterns) => self.is_matched(patterns, name),
-            _ => Ok(false),
-        }
-    }
-
-    fn is_matched(&self, patterns: &[Validator<E>], name: &str) -> Result<bool, AllocError>
-        requires { AllByRecursion (IsPatternReady E.outcome
-            (MayTest T.Fn self.now.text_accepts.now) (length self.now.nodes.now)) patterns.now }
-        ensures { (lists : Lists) → Tests T.Fn self.now.text_accepts.now E.outcome lists
-            → IfOk result (λ b. b ≡ list_any
-            (is_matched name.now) (map (assertions_of E.outcome) patterns.now)) }
-    {
-        for pattern in patterns {
-            if self.matches(pattern, name)? {
-                return Ok(true);
-            }
-        }
-        Ok(false)
-    }
-
-    // A pattern matches a name where it reports nothing of it.
-    fn matches(&self, pattern: &Validator<E>, name: &str) -> Result<bool, AllocError>
-        requires { IsPatternReady E.outcome (MayTest T.Fn self.now.text_accepts.now)
-            (length self.now.nodes.now) pattern.now }
-        ensures { (lists : Lists) → Tests T.Fn self.now.text_accepts.now E.outcome lists
-            → IfOk result (λ b. b ≡ is_matched name.now (assertions_of E.outcome pattern.now)) }
-    {
-        (self.text_accepts)(pattern, Some(name))
-    }
-}
-
-fn has_branch(branches: &[Branch], name: &str) -> bool
-    ensures { result ≡ list_any (λ b. is_named name.now b.key) (branches_of branches.now) }
-{
-    for branch in branches {
-        if is_named(&branch.key, name) {
-            return true;
-        }
-    }
-    false
-}
-
-fn is_named(key: &Option<Segment>, name: &str) -> bool
-    ensures { result ≡ is_named name.now (option_map segment_of key.now) }
-{
-    match key {
-        Some(Segment::Key(other)) => other.as_str() == name,
-        _ => false,
-    }
-}
-
-// The first schema, of the instance itself, where it counts.
-fn on_first<'a>(
-    alloc: Global,
-    counts: bool,
-    branches: &'a [Branch],
-    instance: &'a Value,
-) -> Result<Vec<Target<'a>>, AllocError>
-    ensures { IfOk result (λ found. targets_of found.items ≡ (if counts
-        then on_itself (view instance.now) (first_of (branches_of branches.now)) else [])) }
-{
-    match branches {
-        [first, ..] if counts => on_itself(alloc, std::slice::from_ref(first), instance),
-        _ => Ok(Vec::new(alloc)),
-    }
-}
-
-// An error where there are items from a place on.
-fn unexpected_items(
-    alloc: Global,
-    from: usize,
-    instance: &Value,
-) -> Result<Vec<ErrorKind>, AllocError>
-    ensures { IfOk result (λ found. kinds_of found.items ≡ none_allowed unexpected_items
-        (map (λ i. i.1) (drop from (placed_items (view instance.now))))) }
-{
-    let unexpected = items_from(alloc, from, instance)?;
-    if unexpected.is_empty() {
-        return Ok(Vec::new(alloc));
-    }
-    only(alloc, ErrorKind::AdditionalItems { unexpected })
-}
-
-fn items_from(alloc: Global, from: usize, instance: &Value) -> Result<Vec<Value>, AllocError>
-    ensures { IfOk result (λ items. map view items.items
-        ≡ map (λ i. i.1) (drop from (placed_items (view instance.now)))) }
-{
-    let mut left = Vec::new(alloc);
-    let Some(items) = instance.as_array() else {
-        return Ok(left);
-    };
-    for (place, item) in items.iter().enumerate() {
-        if place >= from {
-            left.push(item.clone()?)?;
-        }
-    }
-    Ok(left)
 }

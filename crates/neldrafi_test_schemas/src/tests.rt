@@ -11,4 +11,5 @@ mod items;
 mod refusals;
 mod sizes;
 mod types;
+mod unevaluated;
 mod values;

@@ -11,6 +11,8 @@ use Rattle.neldrafi_schema.specs.declared.segment.Step.TheVariants as step
 use Rattle.neldrafi_schema.specs.declared.targets.Seen.{Seen}
 use Rattle.neldrafi_schema.specs.declared.targets.Seen.TheVariants as seen
 use Rattle.neldrafi_schema.specs.declared.targets.Target.{Target as FoundTarget}
+use Rattle.neldrafi_schema.specs.declared.targets.Child.{Child as FoundChild}
+use Rattle.neldrafi_schema.specs.Rules.{Child}
 use Rattle.neldrafi_schema.specs.declared.node.Node.{Node}
 use Rattle.neldrafi_schema.specs.declared.node.Branch.{Branch as CompiledBranch}
 use Rattle.neldrafi_schema.specs.declared.node.Dependency.{Dependency as CompiledDependency}
@@ -27,7 +29,7 @@ use Rattle.neldrafi_schema.specs.Schemas.{Dependency, Rule, types, among, equal_
 use Rattle.neldrafi_schema.specs.Schemas.{sized, distinct, required, reference, all_of, dependent}
 use Rattle.neldrafi_schema.specs.Schemas.{properties, matching, other_members, no_other_members}
 use Rattle.neldrafi_schema.specs.Schemas.{member_names, placed, other_items, no_other_items, negation}
-use Rattle.neldrafi_schema.specs.Schemas.{any_of, one_of, contains, where_valid, where_not_valid, held}
+use Rattle.neldrafi_schema.specs.Schemas.{any_of, one_of, contains, where_valid, where_not_valid, condition, unevaluated, held}
 use Rattle.neldrafi_schema.specs.Schemas.{Branch, Keyword, rule, string_keyword}
 use Rattle.neldrafi_schema.specs.Schemas.{Body, always, never, keywords, Schema}
 
@@ -57,6 +59,9 @@ target_of t = record {
   way = path_to (option_map step_of t.way);
   inside = path_to (option_map step_of t.inside);
 }
+
+abbrev pub children_of : List FoundChild → List Child
+children_of cs = map (λ c. (step_of c.step, view c.value.now)) cs
 
 abbrev pub targets_of : List FoundTarget → List Target
 targets_of ts = map target_of ts
@@ -96,9 +101,11 @@ module _ {E : Type 0} (outcome : E → List ℕ → Outcome) where
   rule_of (compiled.Negation v) = negation (view v)
   rule_of compiled.AnyOf = any_of
   rule_of compiled.OneOf = one_of
-  rule_of compiled.Contains = contains
+  rule_of (compiled.Contains least most counts) = contains least most counts
   rule_of compiled.WhereValid = where_valid
   rule_of compiled.WhereNotValid = where_not_valid
+  rule_of compiled.Condition = condition
+  rule_of (compiled.Unevaluated part) = unevaluated part
   rule_of compiled.Held = held
 
   abbrev pub ruled_of : Ruled E → Keyword

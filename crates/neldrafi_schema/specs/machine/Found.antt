@@ -11,7 +11,7 @@ use Rattle.neldrafi_schema.specs.declared.error.Fault.TheVariants.{Invalid, Memo
 use Rattle.neldrafi_schema.specs.Errors.{Kind, false_schema, not_of_types, not_among, not_equal_to, beyond, not_multiple}
 use Rattle.neldrafi_schema.specs.Errors.{of_other_size, not_distinct, missing, unexpected_members}
 use Rattle.neldrafi_schema.specs.Errors.{unexpected_items, negated, valid_by_none, valid_by_several}
-use Rattle.neldrafi_schema.specs.Errors.{none_contained}
+use Rattle.neldrafi_schema.specs.Errors.{none_contained, unevaluated_members, unevaluated_items}
 use Rattle.neldrafi_schema.specs.Errors.{Found, Error, found, of_text}
 
 abbrev pub kind_of : ErrorKind → Kind
@@ -30,6 +30,8 @@ kind_of (kind.Not schema) = negated (view schema)
 kind_of (kind.NoneOf word) = valid_by_none (string_bytes word)
 kind_of kind.OneOfSeveral = valid_by_several
 kind_of kind.Contains = none_contained
+kind_of (kind.UnevaluatedProperties names) = unevaluated_members (map string_bytes names.items)
+kind_of (kind.UnevaluatedItems values) = unevaluated_items (map view values.items)
 
 abbrev pub kinds_of : List ErrorKind → List Kind
 kinds_of = map kind_of

@@ -45,4 +45,6 @@ is_assertion (known.Limited l) = true
 is_assertion (known.Sized s) = true
 is_assertion known.UniqueItems = true
 is_assertion known.Required = true
+is_assertion known.DependentRequired = true
+is_assertion known.ContainsCount = true
 is_assertion other = false

@@ -18,7 +18,7 @@ use Rattle.neldrafi_schema.specs.declared.problem.Problem.{Problem}
 use Rattle.neldrafi_schema.specs.declared.reading.RefusedPattern.{RefusedPattern}
 use Rattle.neldrafi_schema.specs.declared.reading.Said.{Said}
 use Rattle.neldrafi_schema.specs.declared.reading.Said.TheVariants as said
-use Rattle.neldrafi_schema.specs.declared.senses.Lead.{Lead as CompiledLead}
+use Rattle.neldrafi_schema.specs.declared.leads.Lead.{Lead as CompiledLead}
 use Rattle.neldrafi_schema.specs.declared.senses.Sense.{Sense as CompiledSense}
 use Rattle.neldrafi_schema.specs.declared.senses.Sense.TheVariants as sense
 use Rattle.neldrafi_schema.specs.Values.{Lead, Sense, nothing, says, refused}

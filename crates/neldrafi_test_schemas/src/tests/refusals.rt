@@ -279,6 +279,29 @@ const REFUSALS: &[(&str, &str, &str)] = &[
         "UnresolvedReference",
         "/$ref",
     ),
+    (r#"{"minContains":-1}"#, "WrongType", "/minContains"),
+    (r#"{"maxContains":"1"}"#, "WrongType", "/maxContains"),
+    (r#"{"prefixItems":[]}"#, "WrongType", "/prefixItems"),
+    (r#"{"prefixItems":[5]}"#, "WrongType", "/prefixItems/0"),
+    (r#"{"items":[{}]}"#, "WrongType", "/items"),
+    (
+        r#"{"dependentRequired":{"a":"b"}}"#,
+        "WrongType",
+        "/dependentRequired",
+    ),
+    (
+        r#"{"dependentSchemas":{"a":["b"]}}"#,
+        "WrongType",
+        "/dependentSchemas/a",
+    ),
+    (r#"{"$defs":{"a":5}}"#, "WrongType", "/$defs/a"),
+    (r#"{"definitions":{"a":5}}"#, "WrongType", "/definitions/a"),
+    (
+        r#"{"unevaluatedProperties":5}"#,
+        "WrongType",
+        "/unevaluatedProperties",
+    ),
+    (r##"{"if":{"$ref":"#"}}"##, "CircularReference", "/if/$ref"),
 ];
 
 // The name of why a document is refused, and where.

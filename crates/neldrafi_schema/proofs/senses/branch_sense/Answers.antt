@@ -4,7 +4,7 @@ use Rattle.std.specs.Prelude.{codes}
 use Rattle.serde_json.specs.Data.{object}
 use Rattle.serde_json.specs.Find.{get_member}
 use Rattle.serde_json.specs.View.{members_view, view}
-use Rattle.neldrafi_schema.specs.declared.senses.Lead.{Lead}
+use Rattle.neldrafi_schema.specs.declared.leads.Lead.{Lead}
 use Rattle.neldrafi_schema.specs.Paths.{key}
 use Rattle.neldrafi_schema.specs.Values.{lead_to}
 use Rattle.neldrafi_schema.specs.machine.Compiled.{path_of}

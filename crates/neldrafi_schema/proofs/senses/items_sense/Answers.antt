@@ -7,14 +7,20 @@ use Rattle.neldrafi_schema.specs.machine.Compiled.{path_of}
 use Rattle.neldrafi_schema.proofs.Cases.{placed_items, same_items}
 use Rattle.neldrafi_schema.proofs.senses.items_sense.Goals as goal
 
-pub returns-then-is_array-clause-sense : goal.returns-then-is_array-clause-sense
-returns-then-is_array-clause-sense g c = λ outcome.
-    let is : is_some (as_array (view c.args.member.now.value.now)) ≡ true = search rules in
-    IfOk-weaker c.list_sense.result _ _ (λ s e. e ∙ placed_items (path_of c.args.member.now.at.now) (as_array (view c.args.member.now.value.now)) is)
-    (c.list_sense.ensures.sense outcome)
+pub returns-in_default : goal.returns-in_default
+returns-in_default g c = record {
+  sense = λ outcome.
+      let is : is_some (as_array (view c.args.member.now.value.now)) ≡ true = search rules in
+      IfOk-weaker c.list_sense.result _ _ (λ s e. e ∙ placed_items c.args.draft (path_of c.args.member.now.at.now) (as_array (view c.args.member.now.value.now)) c.in_default.not-Draft202012 is)
+      (c.list_sense.ensures.sense outcome);
+  leads = λ document there. c.list_sense.ensures.leads document there;
+}
 
-pub returns-else-is_array-clause-sense : goal.returns-else-is_array-clause-sense
-returns-else-is_array-clause-sense g c = λ outcome.
-    let is : is_some (as_array (view c.args.member.now.value.now)) ≡ false = search rules in
-    IfOk-weaker c.one_sense.result _ _ (λ s e. e ∙ same_items (path_of c.args.member.now.at.now) (as_array (view c.args.member.now.value.now)) is)
-    (c.one_sense.ensures.sense outcome)
+pub returns-in_default-2 : goal.returns-in_default-2
+returns-in_default-2 g c = record {
+  sense = λ outcome.
+      let is : is_some (as_array (view c.args.member.now.value.now)) ≡ false = search rules in
+      IfOk-weaker c.one_sense-in_default-2.result _ _ (λ s e. e ∙ same_items c.args.draft (path_of c.args.member.now.at.now) (as_array (view c.args.member.now.value.now)) c.in_default.not-Draft202012 is)
+      (c.one_sense-in_default-2.ensures.sense outcome);
+  leads = λ document there. c.one_sense-in_default-2.ensures.leads document there;
+}

@@ -1,4 +1,4 @@
-use Rattle.std.proofs.Common.{◌≡◌}
+use Rattle.std.proofs.Common.{◌≡◌, inl, inr}
 use Rattle.serde_json.specs.View.{members_view, view}
 use Rattle.neldrafi_schema.specs.declared.known.Known.TheVariants as known
 use Rattle.neldrafi_schema.specs.machine.Compiled.{path_of}
@@ -24,14 +24,40 @@ returns-in-OneOf-clause-sense g c = λ outcome.
     rw is (c.list_sense-in-OneOf.ensures.sense outcome)
 
 pub returns-in-Definitions-clause-sense : goal.returns-in-Definitions-clause-sense
-returns-in-Definitions-clause-sense g c = λ outcome.
-    let is : c.args.known ≡ known.Definitions = c.in-Definitions.is in
-    rw is (c.map_sense-in-Definitions.ensures.sense outcome)
+returns-in-Definitions-clause-sense g c = λ outcome. elim c.in-Definitions.is [
+  | inl is ↦ rw is (c.map_sense-in-Definitions.ensures.sense outcome)
+  | inr is ↦ rw is (c.map_sense-in-Definitions.ensures.sense outcome)
+]
+
+pub returns-in-DependentSchemas-clause-sense : goal.returns-in-DependentSchemas-clause-sense
+returns-in-DependentSchemas-clause-sense g c = λ outcome.
+    let is : c.args.known ≡ known.DependentSchemas = c.in-DependentSchemas.is in
+    rw is (rw c.new.ensures.items at (c.map_sense-in-DependentSchemas.ensures.sense outcome))
+
+pub returns-in-PrefixItems-clause-sense : goal.returns-in-PrefixItems-clause-sense
+returns-in-PrefixItems-clause-sense g c = λ outcome.
+    let is : c.args.known ≡ known.PrefixItems = c.in-PrefixItems.is in
+    rw is (c.list_sense-in-PrefixItems.ensures.sense outcome)
+
+pub returns-in-Contains-clause-sense : goal.returns-in-Contains-clause-sense
+returns-in-Contains-clause-sense g c = λ outcome.
+    let is : c.args.known ≡ known.Contains = c.in-Contains.is in
+    rw is (rw (c.contains_rule.ensures outcome) at (c.one_sense-in-Contains.ensures.sense outcome))
+
+pub returns-in-If-clause-sense : goal.returns-in-If-clause-sense
+returns-in-If-clause-sense g c = λ outcome.
+    let is : c.args.known ≡ known.If = c.in-If.is in
+    rw is (rw (c.if_rule.ensures outcome) at (c.one_sense-in-If.ensures.sense outcome))
+
+pub returns-in-Unevaluated-clause-sense : goal.returns-in-Unevaluated-clause-sense
+returns-in-Unevaluated-clause-sense g c = λ outcome.
+    let is : c.args.known ≡ known.Unevaluated c.in-Unevaluated.part = c.in-Unevaluated.is in
+    rw is (c.others_sense.ensures.sense outcome)
 
 pub returns-in-AdditionalProperties-clause-sense : goal.returns-in-AdditionalProperties-clause-sense
 returns-in-AdditionalProperties-clause-sense g c = λ outcome.
     let is : c.args.known ≡ known.AdditionalProperties = c.in-AdditionalProperties.is in
-    rw is (c.others_sense.ensures.sense outcome)
+    rw is (c.others_sense-in-AdditionalProperties.ensures.sense outcome)
 
 pub returns-in-Items-clause-sense : goal.returns-in-Items-clause-sense
 returns-in-Items-clause-sense g c = λ outcome.
@@ -46,7 +72,7 @@ returns-in-AdditionalItems-clause-sense g c = λ outcome.
 pub returns-in_default-clause-sense : goal.returns-in_default-clause-sense
 returns-in_default-clause-sense g c = λ outcome.
     c.assertion_sense.ensures.sense outcome (view c.args.places.now.document.now) (path_of c.args.member.now.path.now) (path_of c.args.member.now.at.now)
-    (assertion_left c.args.known c.in_default.not-Dialect c.in_default.not-Reference c.in_default.not-AllOf c.in_default.not-AnyOf c.in_default.not-OneOf c.in_default.not-Properties c.in_default.not-Definitions c.in_default.not-Dependencies c.in_default.not-PropertyNames c.in_default.not-Contains c.in_default.not-If c.in_default.not-Not c.in_default.not-Then c.in_default.not-Else c.in_default.not-AdditionalProperties c.in_default.not-Items c.in_default.not-AdditionalItems c.in_default.not-PatternProperties c.in_default.not-Text c.in_default.not-Unknown)
+    (assertion_left c.args.known c.in_default.not-Dialect c.in_default.not-Reference c.in_default.not-AllOf c.in_default.not-AnyOf c.in_default.not-OneOf c.in_default.not-Properties c.in_default.not-Definitions c.in_default.not-Defs c.in_default.not-Dependencies c.in_default.not-PropertyNames c.in_default.not-Contains c.in_default.not-DependentSchemas c.in_default.not-PrefixItems c.in_default.not-Unevaluated c.in_default.not-If c.in_default.not-Not c.in_default.not-Then c.in_default.not-Else c.in_default.not-AdditionalProperties c.in_default.not-Items c.in_default.not-AdditionalItems c.in_default.not-PatternProperties c.in_default.not-Text c.in_default.not-Unknown)
 
 pub returns-in_default-clause-leads : goal.returns-in_default-clause-leads
 returns-in_default-clause-leads g c = c.assertion_sense.ensures.leads (view c.args.places.now.document.now)

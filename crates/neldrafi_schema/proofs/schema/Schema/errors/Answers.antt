@@ -1,4 +1,4 @@
-use Rattle.std.proofs.Common.{rules, ◌≡◌, ◌∙◌, [], subst, sym}
+use Rattle.std.proofs.Common.{rules, ◌≡◌, ◌∙◌, [], ap, arith, length, subst, sym}
 use Rattle.serde_json.specs.View.{view}
 use Rattle.strkw_report.specs.declared.error.Site.{Site}
 use Rattle.neldrafi_schema.specs.Meaning.{root_site}
@@ -13,6 +13,12 @@ push_errors-requires-clause-tests g c = ready_alike g.E.RegexEngine.outcome c.ar
 pub push_errors-requires-clause-finds : goal.push_errors-requires-clause-finds
 push_errors-requires-clause-finds g c = ready_alike g.E.RegexEngine.outcome c.args.self.now.nodes.items c.deref.result.now c.deref.ensures.value _ _
     (λ v rests p x site e. subst (RestsOn g.E.RegexEngine.outcome _) (sym e) rests) c.requires
+
+pub push_errors-requires-clause-few : goal.push_errors-requires-clause-few
+push_errors-requires-clause-few g c =
+    let all : c.len.result ≡ length c.args.self.now.nodes.items = c.len.ensures ∙ c.args.self.now.nodes.ok.0 in
+    let same : length c.deref.result.now ≡ length c.args.self.now.nodes.items = ap length c.deref.ensures.value in
+    omega (arith, all, same)
 
 pub push_errors-requires-clause-answers : goal.push_errors-requires-clause-answers
 push_errors-requires-clause-answers g c = (_, λ p x r answered. answered.1)

@@ -1,18 +1,27 @@
-use Rattle.std.proofs.Common.{rules, ◌≡◌, ◌↔◌, ◌∙◌, ◌<◌, length, arith, ap, sym, subst, refl, [], ◌++◌, append-nil, true, false, IsTrue, string_bytes}
+use Rattle.std.proofs.Common.{rules, ◌≡◌, ◌↔◌, ◌∙◌, ◌<◌, ◌≤◌, ◌-◌, le_refl, length, map, arith, Some, ap, sym, subst, refl, [], ◌++◌, append-nil, true, false, IsTrue, string_bytes}
 use borrow.Author.Rules.{scaled_fits≤}
-use Rattle.std.proofs.lemmas.Result.{IfOk-weaker}
+use Rattle.std.proofs.lemmas.List.{length-map, map-append}
+use Rattle.std.proofs.lemmas.Result.{IfOk-weaker, on_ok_weaker}
+use Rattle.std.specs.List.{flat_map}
+use Rattle.std.specs.Prelude.{option_map}
 use Rattle.serde_json.specs.View.{view}
 use Rattle.strkw_keywords.specs.Validators.{assertions_of}
-use Rattle.neldrafi_schema.specs.Meaning.{AreVerdicts, EachReports, KeywordReports, TextReports, site_of}
-use Rattle.neldrafi_schema.specs.Rules.{applied, kinds, tested}
+use Rattle.neldrafi_schema.specs.Meaning.{AreLeft, AreVerdicts, BesideEvaluates, EachReports, Evaluates, KeywordEvaluates, OneOf, TargetEvaluates, TextReports, root_site, site_of}
+use Rattle.neldrafi_schema.specs.Refusals.{ends, is_in_place}
+use Rattle.neldrafi_schema.specs.Rules.{applied, children, counts_nothing, kinds, left_kinds, on_each, part_of, path_of as path_to, tested, valid_of}
+use Rattle.neldrafi_schema.specs.Schemas.{rule}
 use Rattle.neldrafi_schema.specs.machine.Closures.{MayTest}
-use Rattle.neldrafi_schema.specs.machine.Compiled.{branches_of, keywords_of, rule_of, schemas_of, seen_data, target_of, targets_of}
+use Rattle.neldrafi_schema.specs.machine.Compiled.{branches_of, children_of, keyword_of, keywords_of, rule_of, ruled_of, schema_of, schemas_of, seen_data, step_of, target_of, targets_of}
 use Rattle.neldrafi_schema.specs.machine.Found.{kind_of, kinds_of}
-use Rattle.neldrafi_schema.specs.machine.Ready.{IsKeywordReady, IsRuledReady}
-use Rattle.neldrafi_schema.proofs.Endings.{ends_inside, ends_some}
-use Rattle.neldrafi_schema.proofs.Lists.{drop_past, empty_by, not_empty_by}
-use Rattle.neldrafi_schema.proofs.Visited.{holds, no_kinds, nothing_mapped, no_targets, refutes, rule_passes}
-use Rattle.neldrafi_schema.proofs.Visiting.{Next, Within, always_accepts, goes_on, goes_on_target, keyword_ends, keyword_ready, keywords_accept, keywords_ready, keywords_refuse, never_accepts, next_applied, next_tested, stops, stops_target, verdict_more}
+use Rattle.neldrafi_schema.specs.machine.Left.{AreFindings, AreSpans}
+use Rattle.neldrafi_schema.specs.machine.Ready.{IsKeywordReady, IsRuledReady, steps_for}
+use Rattle.neldrafi_schema.proofs.Endings.{ends_inside, ends_some, keyword_end}
+use Rattle.neldrafi_schema.proofs.Entering.{span_ends}
+use Rattle.neldrafi_schema.proofs.Lists.{all_at, drop_past, empty_by, not_empty_by}
+use Rattle.neldrafi_schema.proofs.Taken.{beside_left, inside_left, itself_left, keywords_left, left_found, no_keywords_left, not_beside, own_found, part_left, some_spanned, speaks_of_none, text_beside, text_left}
+use Rattle.neldrafi_schema.proofs.Taking.{keyword_left, left_all_seen, left_more, left_none}
+use Rattle.neldrafi_schema.proofs.Visited.{holds, no_kinds, no_targets, nothing_mapped, refutes, rule_passes}
+use Rattle.neldrafi_schema.proofs.Visiting.{Next, Within, always_accepts, few_below, goes_on, goes_on_target, is_body, keyword_ends, keyword_ready, keywords_accept, keywords_below, keywords_ready, keywords_refuse, never_accepts, next_found, next_tested, stops, stops_target, verdict_more}
 use Rattle.neldrafi_schema.proofs.validity.Checker.+accepts.Goals as goal
 
 pub accepts-offset_bounds-self-number : goal.accepts-offset_bounds-self-number
@@ -45,33 +54,18 @@ accepts-keyword_accepts-requires g t c κs within =
     let items = c.deref-keyword-items.result.now in
     let MayCall = MayTest g.T.Fn c.args.self.now.text_accepts.now in
     let some = ends_some (schemas_of outcome nodes) c.args.steps c.args.number c.requires.end in
-    let same : items ≡ c.deref.result.now = c.deref-keyword-items.ensures.value ∙ sym c.deref.ensures.value in (
-      omega (arith, c.decreases),
-      (
-        within.0,
-        (
-          within.1,
-          (
-            c.requires.ready,
-            (
-              c.requires.answers,
-              (
-                keyword_ready outcome nodes c.args.number c.args.steps node c.index-self-number.is c.requires.end
-                    c.in-Keywords.keywords items c.in-Keywords.is c.deref-keyword-items.ensures.value
-                    MayCall c.loop-keyword.keyword-index c.keyword-item.result c.loop-keyword-test.true c.keyword-item.is c.requires.ready.each,
-                (
-                  keywords_ready outcome nodes c.args.number c.args.steps node c.index-self-number.is c.requires.end
-                      c.in-Keywords.keywords c.deref.result.now c.in-Keywords.is c.deref.ensures.value MayCall c.requires.ready.each,
-                  keyword_ends outcome nodes c.args.number c.args.steps node c.index-self-number.is c.requires.end
-                      c.in-Keywords.keywords items c.in-Keywords.is c.deref-keyword-items.ensures.value
-                      c.loop-keyword.keyword-index c.keyword-item.result c.loop-keyword-test.true c.keyword-item.is,
-                ),
-              ),
-            ),
-          ),
-        ),
-      ),
-    )
+    let few : c.args.steps - 1 ≤ length nodes = omega (arith, c.requires.few) in
+    let this = keyword_ready outcome nodes c.args.number c.args.steps node c.index-self-number.is c.requires.end
+    c.in-Keywords.keywords items c.in-Keywords.is c.deref-keyword-items.ensures.value
+    MayCall c.loop-keyword.keyword-index c.keyword-item.result c.loop-keyword-test.true c.keyword-item.is c.requires.ready.each in
+    let others = keywords_ready outcome nodes c.args.number c.args.steps node c.index-self-number.is c.requires.end
+    c.in-Keywords.keywords c.deref.result.now c.in-Keywords.is c.deref.ensures.value MayCall c.requires.ready.each in
+    let ends = keywords_below outcome nodes c.args.number c.args.steps node c.index-self-number.is c.requires.end
+    c.in-Keywords.keywords c.deref.result.now c.in-Keywords.is c.deref.ensures.value in
+    let end = keyword_ends outcome nodes c.args.number c.args.steps node c.index-self-number.is c.requires.end
+    c.in-Keywords.keywords items c.in-Keywords.is c.deref-keyword-items.ensures.value
+    c.loop-keyword.keyword-index c.keyword-item.result c.loop-keyword-test.true c.keyword-item.is in
+    (omega (arith, c.decreases), (within.0, (within.1, (c.requires.ready, (c.requires.answers, (few, (this, (others, (ends, end)))))))))
 
 pub accepts-returns-then-not-branch : goal.accepts-returns-then-not-branch
 accepts-returns-then-not-branch g t c = λ lists tests k site h.
@@ -116,11 +110,11 @@ keyword_accepts-rule_accepts-requires g t c κs within =
     let outcome = g.E.RegexEngine.outcome in
     let MayCall = MayTest g.T.Fn c.args.self.now.text_accepts.now in
     let this : IsRuledReady outcome MayCall (length c.args.self.now.nodes.now) c.in-Rule.ruled = rw c.in-Rule.is at c.requires.this in
-    (omega (arith, c.decreases), (within.0, (within.1, (c.requires.ready, (c.requires.answers, (this, (c.requires.others, rw c.in-Rule.is at c.requires.end)))))))
+    (omega (arith, c.decreases), (within.0, (within.1, (c.requires.ready, (c.requires.answers, (c.requires.few, (this, (c.requires.others, (c.requires.ends, rw c.in-Rule.is at c.requires.end)))))))))
 
-pub rule_accepts-verdicts-requires : goal.rule_accepts-verdicts-requires
-rule_accepts-verdicts-requires g t c κs within =
-    (omega (arith, c.decreases), (within.0, (within.1, (c.requires.ready, (c.requires.answers, (c.requires.this, c.requires.end))))))
+pub rule_accepts-findings-requires : goal.rule_accepts-findings-requires
+rule_accepts-findings-requires g t c κs within =
+    (omega (arith, c.decreases), (within.0, (within.1, (c.requires.ready, (c.requires.answers, (c.requires.few, (c.requires.this, (c.requires.others, (c.requires.ends, c.requires.end)))))))))
 
 pub rule_accepts-returns-then-not-is_empty : goal.rule_accepts-returns-then-not-is_empty
 rule_accepts-returns-then-not-is_empty g t c = λ lists tests k location site h.
@@ -130,35 +124,46 @@ rule_accepts-returns-then-not-is_empty g t c = λ lists tests k location site h.
     let d = view c.args.instance.now in
     let ruled = c.args.ruled.now in
     let word = string_bytes ruled.name in
+    let r = rule_of outcome ruled.rule in
+    let bs = branches_of ruled.branches.items in
     let beside = keywords_of outcome c.args.beside.now in
-    let vs = c.in_ok-verdicts.verdicts.items in
-    refutes _ false refl (λ r.
-    let none : c.in_ok-kinds.field-0.items ≡ [] = nothing_mapped kind_of c.in_ok-kinds.field-0.items
-    (c.in_ok-kinds.ensures lists tests ∙ ap (kinds beside word (rule_of outcome ruled.rule) d) c.deref.ensures.value
-    ∙ no_kinds below lists location beside word (rule_of outcome ruled.rule) (branches_of ruled.branches.items) d site vs (c.in_ok-verdicts.ensures lists tests k site word h) r) in
-    absurd (not_empty_by c.in_ok-kinds.field-0.items _ c.is_empty.result c.is_empty.ensures c.in_ok-kinds.field-0.ok.0 c.if-not-is_empty.true none))
+    let kinds = c.in_ok-kinds.kinds.items in
+    refutes _ false refl (λ reported.
+    let none : kinds ≡ [] = nothing_mapped kind_of kinds
+    (no_kinds (schemas_of outcome nodes) below lists location beside word r bs d site (kinds_of kinds) (targets_of c.in_ok-kinds.targets.items)
+    (c.in_ok-kinds.ensures lists tests k site h) reported) in
+    absurd (not_empty_by kinds _ c.is_empty.result c.is_empty.ensures c.in_ok-kinds.kinds.ok.0 c.if-not-is_empty.true none))
 
 pub rule_accepts-loop-target-init : goal.rule_accepts-loop-target-init
 rule_accepts-loop-target-init g t c = λ lists tests k site h. (λ x. x, λ x. x)
 
 pub rule_accepts-accepts-requires : goal.rule_accepts-accepts-requires
 rule_accepts-accepts-requires g t c κs within =
+    let (lists, tests) = c.requires.answers in
+    let k = steps_for (length c.args.self.now.nodes.now) (view c.args.instance.now) c.args.steps in
     let outcome = g.E.RegexEngine.outcome in
     let nodes = c.args.self.now.nodes.now in
-    let MayCall = MayTest g.T.Fn c.args.self.now.text_accepts.now in
+    let below = Within outcome nodes lists k in
     let d = view c.args.instance.now in
     let ruled = c.args.ruled.now in
+    let word = string_bytes ruled.name in
+    let r = rule_of outcome ruled.rule in
+    let bs = branches_of ruled.branches.items in
+    let beside = keywords_of outcome c.args.beside.now in
     let items = c.deref-target-items.result.now in
+    let kinds = kinds_of c.in_ok-kinds.kinds.items in
+    let found : AreFindings (schemas_of outcome nodes) below beside (ruled_of outcome ruled) d root_site kinds (targets_of items) =
+    subst (λ ts. AreFindings (schemas_of outcome nodes) below beside (ruled_of outcome ruled) d root_site kinds (targets_of ts)) (sym c.deref-target-items.ensures.value)
+    (c.in_ok-kinds.ensures lists tests k root_site (le_refl k)) in
+    let MayCall = MayTest g.T.Fn c.args.self.now.text_accepts.now in
     let left = c.steps_below-left.result in
-    let (lists, tests) = c.requires.answers in
-    let same : targets_of items ≡ applied (keywords_of outcome c.args.beside.now) (rule_of outcome ruled.rule) (branches_of ruled.branches.items) d c.deref-2.result.now =
-    ap targets_of c.deref-target-items.ensures.value ∙ c.in_ok-applied.ensures lists tests in
-    let there = next_applied outcome nodes MayCall c.requires.ready ruled d c.args.steps left c.requires.this c.requires.end c.steps_below-left.ensures
-    items c.loop-target.target-index c.target-item.result (keywords_of outcome c.args.beside.now) c.deref-2.result.now same c.loop-target-test.true c.target-item.is in
+    let there = next_found outcome nodes MayCall c.requires.ready ruled d c.args.steps left c.requires.this c.requires.end c.steps_below-left.ensures
+    below beside root_site kinds items c.loop-target.target-index c.target-item.result found c.loop-target-test.true c.target-item.is in
     let next = subst (Next outcome nodes MayCall c.requires.ready ruled d c.args.steps left c.requires.this c.requires.end c.steps_below-left.ensures c.target-item.result.schema)
     (sym c.as_value.ensures) there in
     let fewer = next.1 in
-    (omega (arith, c.decreases, fewer), (within.0, (within.1, (c.requires.ready, (c.requires.answers, next.0)))))
+    let few : left ≤ length nodes = few_below (is_in_place (rule_of outcome ruled.rule)) c.args.steps (length nodes) left c.requires.few c.steps_below-left.ensures in
+    (omega (arith, c.decreases, fewer), (within.0, (within.1, (c.requires.ready, (c.requires.answers, (few, next.0))))))
 
 pub verdicts-accepts-requires : goal.verdicts-accepts-requires
 verdicts-accepts-requires g t c κs within =
@@ -177,7 +182,8 @@ verdicts-accepts-requires g t c κs within =
     let next = subst (Next outcome nodes MayCall c.requires.ready ruled d c.args.steps left c.requires.this c.requires.end c.steps_below-left.ensures c.target-item.result.schema)
     (sym c.as_value.ensures) there in
     let fewer = next.1 in
-    (omega (arith, c.decreases, fewer), (within.0, (within.1, (c.requires.ready, (c.requires.answers, next.0)))))
+    let few : left ≤ length nodes = few_below (is_in_place (rule_of outcome ruled.rule)) c.args.steps (length nodes) left c.requires.few c.steps_below-left.ensures in
+    (omega (arith, c.decreases, fewer), (within.0, (within.1, (c.requires.ready, (c.requires.answers, (few, next.0))))))
 
 pub verdicts-loop-target-preserved : goal.verdicts-loop-target-preserved
 verdicts-loop-target-preserved g t c = λ lists tests k site word h.
@@ -227,16 +233,18 @@ rule_accepts-loop-target-preserved g t c = λ lists tests k site h.
     let d = view c.args.instance.now in
     let ruled = c.args.ruled.now in
     let word = string_bytes ruled.name in
+    let r = rule_of outcome ruled.rule in
+    let bs = branches_of ruled.branches.items in
     let beside = keywords_of outcome c.args.beside.now in
-    let MayCall = MayTest g.T.Fn c.args.self.now.text_accepts.now in
     let items = c.deref-target-items.result.now in
+    let kinds = kinds_of c.in_ok-kinds.kinds.items in
+    let found : AreFindings (schemas_of outcome nodes) below beside (ruled_of outcome ruled) d site kinds (targets_of items) =
+    subst (λ ts. AreFindings (schemas_of outcome nodes) below beside (ruled_of outcome ruled) d site kinds (targets_of ts)) (sym c.deref-target-items.ensures.value)
+    (c.in_ok-kinds.ensures lists tests k site h) in
+    let MayCall = MayTest g.T.Fn c.args.self.now.text_accepts.now in
     let left = c.steps_below-left.result in
-    let vs = c.in_ok-verdicts.verdicts.items in
-    let same : targets_of items ≡ applied beside (rule_of outcome ruled.rule) (branches_of ruled.branches.items) d vs =
-    ap targets_of c.deref-target-items.ensures.value ∙ c.in_ok-applied.ensures lists tests
-    ∙ ap (applied beside (rule_of outcome ruled.rule) (branches_of ruled.branches.items) d) c.deref-2.ensures.value in
-    let there = next_applied outcome nodes MayCall c.requires.ready ruled d c.args.steps left c.requires.this c.requires.end c.steps_below-left.ensures
-    items c.loop-target.target-index c.target-item.result beside vs same c.loop-target-test.true c.target-item.is in
+    let there = next_found outcome nodes MayCall c.requires.ready ruled d c.args.steps left c.requires.this c.requires.end c.steps_below-left.ensures
+    below beside site kinds items c.loop-target.target-index c.target-item.result found c.loop-target-test.true c.target-item.is in
     let next = subst (Next outcome nodes MayCall c.requires.ready ruled d c.args.steps left c.requires.this c.requires.end c.steps_below-left.ensures c.target-item.result.schema)
     (sym c.as_value.ensures) there in
     let fewer = next.1 in
@@ -253,26 +261,27 @@ rule_accepts-returns-then-not-branch g t c = λ lists tests k location site h.
     let d = view c.args.instance.now in
     let ruled = c.args.ruled.now in
     let word = string_bytes ruled.name in
+    let r = rule_of outcome ruled.rule in
+    let bs = branches_of ruled.branches.items in
     let beside = keywords_of outcome c.args.beside.now in
-    let MayCall = MayTest g.T.Fn c.args.self.now.text_accepts.now in
     let items = c.deref-target-items.result.now in
+    let kinds = kinds_of c.in_ok-kinds.kinds.items in
+    let found : AreFindings (schemas_of outcome nodes) below beside (ruled_of outcome ruled) d site kinds (targets_of items) =
+    subst (λ ts. AreFindings (schemas_of outcome nodes) below beside (ruled_of outcome ruled) d site kinds (targets_of ts)) (sym c.deref-target-items.ensures.value)
+    (c.in_ok-kinds.ensures lists tests k site h) in
+    let MayCall = MayTest g.T.Fn c.args.self.now.text_accepts.now in
     let left = c.steps_below-left.result in
-    let vs = c.in_ok-verdicts.verdicts.items in
-    let same : targets_of items ≡ applied beside (rule_of outcome ruled.rule) (branches_of ruled.branches.items) d vs =
-    ap targets_of c.deref-target-items.ensures.value ∙ c.in_ok-applied.ensures lists tests
-    ∙ ap (applied beside (rule_of outcome ruled.rule) (branches_of ruled.branches.items) d) c.deref-2.ensures.value in
-    let there = next_applied outcome nodes MayCall c.requires.ready ruled d c.args.steps left c.requires.this c.requires.end c.steps_below-left.ensures
-    items c.loop-target.target-index c.target-item.result beside vs same c.loop-target-test.true c.target-item.is in
+    let there = next_found outcome nodes MayCall c.requires.ready ruled d c.args.steps left c.requires.this c.requires.end c.steps_below-left.ensures
+    below beside site kinds items c.loop-target.target-index c.target-item.result found c.loop-target-test.true c.target-item.is in
     let next = subst (Next outcome nodes MayCall c.requires.ready ruled d c.args.steps left c.requires.this c.requires.end c.steps_below-left.ensures c.target-item.result.schema)
     (sym c.as_value.ensures) there in
     let fewer = next.1 in
     let at = site_of site word (target_of c.target-item.result) in
     let says = subst (λ v. IsTrue c.in_ok-accepts.field-0 ↔ below c.target-item.result.schema v at []) c.as_value.ensures (c.in_ok-accepts.ensures lists tests k at (omega (arith, fewer))) in
-    refutes _ false refl (λ r. absurd (
+    refutes _ false refl (λ reported. absurd (
     stops_target below site word items c.loop-target.target-index c.target-item.result c.loop-target-test.true c.target-item.is c.in_ok-accepts.field-0 says
     c.if-not-branch.true (c.loop-target.invariant lists tests k site h)
-    (subst (λ ts. EachReports below site word ts []) (sym same) (no_targets below lists location beside word (rule_of outcome ruled.rule) (branches_of ruled.branches.items) d site vs
-    (c.in_ok-verdicts.ensures lists tests k site word h) r))))
+    (no_targets (schemas_of outcome nodes) below lists location beside word r bs d site kinds (targets_of items) found reported)))
 
 pub rule_accepts-returns : goal.rule_accepts-returns
 rule_accepts-returns g t c = λ lists tests k location site h.
@@ -282,23 +291,381 @@ rule_accepts-returns g t c = λ lists tests k location site h.
     let d = view c.args.instance.now in
     let ruled = c.args.ruled.now in
     let word = string_bytes ruled.name in
+    let r = rule_of outcome ruled.rule in
+    let bs = branches_of ruled.branches.items in
     let beside = keywords_of outcome c.args.beside.now in
-    let MayCall = MayTest g.T.Fn c.args.self.now.text_accepts.now in
     let items = c.deref-target-items.result.now in
-    let left = c.steps_below-left.result in
-    let vs = c.in_ok-verdicts.verdicts.items in
-    let same : targets_of items ≡ applied beside (rule_of outcome ruled.rule) (branches_of ruled.branches.items) d vs =
-    ap targets_of c.deref-target-items.ensures.value ∙ c.in_ok-applied.ensures lists tests
-    ∙ ap (applied beside (rule_of outcome ruled.rule) (branches_of ruled.branches.items) d) c.deref-2.ensures.value in
-    let none : c.in_ok-kinds.field-0.items ≡ [] =
-    empty_by c.in_ok-kinds.field-0.items _ c.is_empty.result c.is_empty.ensures c.in_ok-kinds.field-0.ok.0 c.if-not-is_empty.false in
-    let nothing : kinds beside word (rule_of outcome ruled.rule) d vs ≡ [] =
-    sym (ap (kinds beside word (rule_of outcome ruled.rule) d) c.deref.ensures.value) ∙ sym (c.in_ok-kinds.ensures lists tests) ∙ ap kinds_of none in
-    holds _ true refl (rule_passes below lists location beside word (rule_of outcome ruled.rule) (branches_of ruled.branches.items) d site vs
-    (c.in_ok-verdicts.ensures lists tests k site word h) nothing
-    (subst (λ ts. EachReports below site word ts []) same
-    ((c.loop-target.invariant lists tests k site h).1 (rw (drop_past items c.loop-target.target-index c.loop-target-test.false) refl))))
+    let kinds = kinds_of c.in_ok-kinds.kinds.items in
+    let found : AreFindings (schemas_of outcome nodes) below beside (ruled_of outcome ruled) d site kinds (targets_of items) =
+    subst (λ ts. AreFindings (schemas_of outcome nodes) below beside (ruled_of outcome ruled) d site kinds (targets_of ts)) (sym c.deref-target-items.ensures.value)
+    (c.in_ok-kinds.ensures lists tests k site h) in
+    let none : c.in_ok-kinds.kinds.items ≡ [] =
+    empty_by c.in_ok-kinds.kinds.items _ c.is_empty.result c.is_empty.ensures c.in_ok-kinds.kinds.ok.0 c.if-not-is_empty.false in
+    holds _ true refl (rule_passes (schemas_of outcome nodes) below lists location beside word r bs d site kinds (targets_of items) found (ap kinds_of none)
+    ((c.loop-target.invariant lists tests k site h).1 (rw (drop_past items c.loop-target.target-index c.loop-target-test.false) refl)))
 
 pub keyword_accepts-returns-in-Rule : goal.keyword_accepts-returns-in-Rule
 keyword_accepts-returns-in-Rule g t c = λ lists tests. IfOk-weaker c.rule_accepts.result _ _
     (λ b p k location site h. rw c.in-Rule.is (p k location site h)) (c.rule_accepts.ensures lists tests)
+
+-- ---- what is found
+
+pub findings-left-requires : goal.findings-left-requires
+findings-left-requires g t c κs within =
+    (omega (arith, c.decreases), (within.0, (within.1, (c.requires.ready, (c.requires.answers, (c.requires.few, (c.requires.others, c.requires.ends)))))))
+
+pub findings-verdicts-requires : goal.findings-verdicts-requires
+findings-verdicts-requires g t c κs within =
+    (omega (arith, c.decreases), (within.0, (within.1, (c.requires.ready, (c.requires.answers, (c.requires.few, (c.requires.this, c.requires.end)))))))
+
+pub spans-verdicts-requires : goal.spans-verdicts-requires
+spans-verdicts-requires g t c κs within =
+    (omega (arith, c.decreases), (within.0, (within.1, (c.requires.ready, (c.requires.answers, (c.requires.few, (c.requires.this, c.requires.end)))))))
+
+pub findings-returns-in-Unevaluated : goal.findings-returns-in-Unevaluated
+findings-returns-in-Unevaluated g t c = λ lists tests k site h.
+    let outcome = g.E.RegexEngine.outcome in
+    let nodes = c.args.self.now.nodes.now in
+    let below = Within outcome nodes lists k in
+    let d = view c.args.instance.now in
+    let ruled = c.args.ruled.now in
+    let word = string_bytes ruled.name in
+    let bs = branches_of ruled.branches.items in
+    let beside = keywords_of outcome c.args.beside.now in
+    let x = c.in-Unevaluated.part in
+    let kinds = kinds_of c.in_ok-kinds.kinds.items in
+    let targets = targets_of c.in_ok-on_each.field-0.items in
+    let left = children_of c.in_ok-left.left.items in
+    let told : kinds ≡ left_kinds (Some x) bs left = c.in_ok-kinds.ensures
+    ∙ ap (λ l. left_kinds (Some x) (branches_of l) (children_of c.deref-in-Unevaluated.result.now)) c.deref.ensures.value
+    ∙ ap (λ l. left_kinds (Some x) bs (children_of l)) c.deref-in-Unevaluated.ensures.value in
+    let each : targets ≡ flat_map (on_each left) bs = c.in_ok-on_each.ensures
+    ∙ ap (λ l. flat_map (on_each (children_of c.deref-in-Unevaluated-3.result.now)) (branches_of l)) c.deref-in-Unevaluated-2.ensures.value
+    ∙ ap (λ l. flat_map (on_each (children_of l)) bs) c.deref-in-Unevaluated-3.ensures.value in
+    subst (λ said. AreFindings (schemas_of outcome nodes) below beside (rule word (rule_of outcome said) bs) d site kinds targets) (sym c.in-Unevaluated.is)
+    (left_found (schemas_of outcome nodes) below beside word x bs d site kinds targets left (c.in_ok-left.ensures lists tests k h) told each)
+
+pub findings-returns : goal.findings-returns
+findings-returns g t c = λ lists tests k site h.
+    let outcome = g.E.RegexEngine.outcome in
+    let nodes = c.args.self.now.nodes.now in
+    let below = Within outcome nodes lists k in
+    let d = view c.args.instance.now in
+    let ruled = c.args.ruled.now in
+    let word = string_bytes ruled.name in
+    let r = rule_of outcome ruled.rule in
+    let bs = branches_of ruled.branches.items in
+    let beside = keywords_of outcome c.args.beside.now in
+    let vs = c.in_ok-verdicts.verdicts.items in
+    let none = speaks_of_none outcome ruled.rule c.in_default.not-Unevaluated in
+    own_found (schemas_of outcome nodes) below beside word r bs d site (kinds_of c.in_ok-kinds-2.kinds.items) (targets_of c.in_ok-applied.field-0.items) vs none
+    (c.in_ok-verdicts.ensures lists tests k site word h) (c.in_ok-kinds-2.ensures lists tests ∙ ap (kinds beside word r d) c.deref-2.ensures.value)
+    (c.in_ok-applied.ensures lists tests ∙ ap (applied beside r bs d) c.deref-3.ensures.value)
+
+pub spans-returns : goal.spans-returns
+spans-returns g t c = λ lists tests k h.
+    let outcome = g.E.RegexEngine.outcome in
+    let nodes = c.args.self.now.nodes.now in
+    let below = Within outcome nodes lists k in
+    let d = view c.args.instance.now in
+    let ruled = c.args.ruled.now in
+    let word = string_bytes ruled.name in
+    let r = rule_of outcome ruled.rule in
+    let bs = branches_of ruled.branches.items in
+    let beside = keywords_of outcome c.args.beside.now in
+    let vs = c.in_ok-verdicts.verdicts.items in
+    let found = c.in_ok-tested.tested.items in
+    let counts : counts_nothing r ≡ false = sym (c.counts_nothing.ensures outcome) ∙ c.if-counts_nothing.false in
+    let by_tests : targets_of found ≡ tested r bs d = c.in_ok-tested.ensures outcome ∙ ap (λ l. tested r (branches_of l) d) c.deref.ensures.value in
+    let valid : targets_of c.in_ok-spans.spans.items ≡ valid_of (tested r bs d) vs = c.in_ok-spans.ensures
+    ∙ ap (λ us. valid_of (targets_of found) us) c.deref-2.ensures.value ∙ ap (λ ts. valid_of ts vs) by_tests in
+    let by_rule : targets_of c.in_ok-applied.field-0.items ≡ applied beside r bs d vs = c.in_ok-applied.ensures lists tests ∙ ap (applied beside r bs d) c.deref-3.ensures.value in
+    let both : targets_of c.append.new.self.items ≡ valid_of (tested r bs d) vs ++ applied beside r bs d vs = ap targets_of c.in_ok-append.ensures.items
+    ∙ map-append target_of c.in_ok-spans.spans.items c.in_ok-applied.field-0.items ∙ ap (λ ts. ts ++ targets_of c.in_ok-applied.field-0.items) valid
+    ∙ ap (λ us. valid_of (tested r bs d) vs ++ us) by_rule in
+    some_spanned (schemas_of outcome nodes) below beside word r bs d counts vs (targets_of c.append.new.self.items) (c.in_ok-verdicts.ensures lists tests k root_site word h) both
+
+-- ---- what is left
+
+pub left-take_beside-requires : goal.left-take_beside-requires
+left-take_beside-requires g t c κs within =
+    let outcome = g.E.RegexEngine.outcome in
+    let nodes = c.args.self.now.nodes.now in
+    let MayCall = MayTest g.T.Fn c.args.self.now.text_accepts.now in
+    let items = c.args.keywords.now in
+    let this = all_at (IsKeywordReady outcome MayCall (length nodes)) items c.loop-keyword.keyword-index c.keyword-item.result c.requires.others c.loop-keyword-test.true c.keyword-item.is in
+    let end = keyword_end (keyword_of outcome) (ends (schemas_of outcome nodes) c.args.steps) items c.loop-keyword.keyword-index c.keyword-item.result c.requires.ends
+    c.loop-keyword-test.true c.keyword-item.is in
+    (omega (arith, c.decreases), (within.0, (within.1, (c.requires.ready, (c.requires.answers, (c.requires.few, (this, (c.requires.others, end))))))))
+
+pub left-loop-keyword-init : goal.left-loop-keyword-init
+left-loop-keyword-init g t c = λ lists tests k h.
+    subst (λ cs. AreLeft (λ s. ⊥) cs (children_of c.in_ok-left.left.items)) c.in_ok-left.ensures (left_none (λ s. ⊥) (λ s x. x) (children_of c.in_ok-left.left.items))
+
+pub left-loop-keyword-preserved : goal.left-loop-keyword-preserved
+left-loop-keyword-preserved g t c = λ lists tests k h.
+    let outcome = g.E.RegexEngine.outcome in
+    let nodes = c.args.self.now.nodes.now in
+    let items = c.args.keywords.now in
+    let d = view c.args.instance.now in
+    left_more (λ s key. BesideEvaluates (schemas_of outcome nodes) (Within outcome nodes lists k) (keywords_of outcome items) d s (keyword_of outcome key))
+    items c.loop-keyword.keyword-index c.keyword-item.result (children c.args.part d) (children_of c.loop-keyword.left.items) (children_of c.take_beside.new.left.items)
+    c.loop-keyword-test.true c.keyword-item.is (c.loop-keyword.invariant lists tests k h) (c.in_ok-take_beside.ensures lists tests k h)
+
+pub left-returns : goal.left-returns
+left-returns g t c = λ lists tests k h.
+    let outcome = g.E.RegexEngine.outcome in
+    let nodes = c.args.self.now.nodes.now in
+    let items = c.args.keywords.now in
+    let d = view c.args.instance.now in
+    left_all_seen (λ s key. BesideEvaluates (schemas_of outcome nodes) (Within outcome nodes lists k) (keywords_of outcome items) d s key) (keyword_of outcome)
+    items c.loop-keyword.keyword-index (children c.args.part d) (children_of c.loop-keyword.left.items) c.loop-keyword-test.false (c.loop-keyword.invariant lists tests k h)
+
+pub take_beside-take_evaluated-requires : goal.take_beside-take_evaluated-requires
+take_beside-take_evaluated-requires g t c κs within =
+    let outcome = g.E.RegexEngine.outcome in
+    let MayCall = MayTest g.T.Fn c.args.self.now.text_accepts.now in
+    let this : IsRuledReady outcome MayCall (length c.args.self.now.nodes.now) c.in-Rule.ruled = rw c.in-Rule.is at c.requires.this in
+    let speaks = speaks_of_none outcome c.in-Rule.ruled.rule c.in_default-rule.not-Unevaluated in
+    (omega (arith, c.decreases), (within.0, (within.1, (c.requires.ready, (c.requires.answers, (c.requires.few, (this, (c.requires.others, (rw c.in-Rule.is at c.requires.end, speaks)))))))))
+
+pub take_by_keyword-take_evaluated-requires : goal.take_by_keyword-take_evaluated-requires
+take_by_keyword-take_evaluated-requires g t c κs within =
+    let outcome = g.E.RegexEngine.outcome in
+    let MayCall = MayTest g.T.Fn c.args.self.now.text_accepts.now in
+    let this : IsRuledReady outcome MayCall (length c.args.self.now.nodes.now) c.in-Rule.ruled = rw c.in-Rule.is at c.requires.this in
+    let speaks = speaks_of_none outcome c.in-Rule.ruled.rule c.in_default-rule.not-Unevaluated in
+    (omega (arith, c.decreases), (within.0, (within.1, (c.requires.ready, (c.requires.answers, (c.requires.few, (this, (c.requires.others, (rw c.in-Rule.is at c.requires.end, speaks)))))))))
+
+pub take_beside-returns-in_default : goal.take_beside-returns-in_default
+take_beside-returns-in_default g t c = λ lists tests k h.
+    let outcome = g.E.RegexEngine.outcome in
+    let nodes = c.args.self.now.nodes.now in
+    let schemas = schemas_of outcome nodes in
+    let below = Within outcome nodes lists k in
+    let d = view c.args.instance.now in
+    let beside = keywords_of outcome c.args.beside.now in
+    let cs = children_of c.args.left.now.items in
+    text_beside outcome below beside d schemas c.args.keyword.now c.in_default.not-Rule cs
+
+pub take_beside-returns-in-Unevaluated : goal.take_beside-returns-in-Unevaluated
+take_beside-returns-in-Unevaluated g t c = λ lists tests k h.
+    let outcome = g.E.RegexEngine.outcome in
+    let nodes = c.args.self.now.nodes.now in
+    let schemas = schemas_of outcome nodes in
+    let below = Within outcome nodes lists k in
+    let d = view c.args.instance.now in
+    let beside = keywords_of outcome c.args.beside.now in
+    let cs = children_of c.args.left.now.items in
+    let ruled = c.in-Rule.ruled in
+    let word = string_bytes ruled.name in
+    let bs = branches_of ruled.branches.items in
+    subst (λ key. AreLeft (λ s. BesideEvaluates schemas below beside d s (keyword_of outcome key)) cs cs) (sym c.in-Rule.is)
+    (not_beside schemas below beside word (rule_of outcome ruled.rule) bs d cs c.in-Unevaluated.field-0 (ap (λ r. part_of (rule_of outcome r)) c.in-Unevaluated.is))
+
+pub take_beside-returns-in_default-rule : goal.take_beside-returns-in_default-rule
+take_beside-returns-in_default-rule g t c = λ lists tests. on_ok_weaker c.take_evaluated.result (λ p k h.
+    let outcome = g.E.RegexEngine.outcome in
+    let nodes = c.args.self.now.nodes.now in
+    let schemas = schemas_of outcome nodes in
+    let below = Within outcome nodes lists k in
+    let d = view c.args.instance.now in
+    let beside = keywords_of outcome c.args.beside.now in
+    let cs = children_of c.args.left.now.items in
+    let ruled = c.in-Rule.ruled in
+    let word = string_bytes ruled.name in
+    let bs = branches_of ruled.branches.items in
+    let ls = children_of c.take_evaluated.new.left.items in
+    let few : c.args.steps ≤ length schemas = subst (λ n. c.args.steps ≤ n) (sym (length-map nodes (schema_of outcome))) c.requires.few in
+    let none = speaks_of_none outcome ruled.rule c.in_default-rule.not-Unevaluated in
+    subst (λ key. AreLeft (λ s. BesideEvaluates schemas below beside d s (keyword_of outcome key)) cs ls) (sym c.in-Rule.is)
+    (beside_left schemas below beside word (rule_of outcome ruled.rule) bs d cs ls none (p (length schemas) k few h))) (c.take_evaluated.ensures lists tests)
+
+pub take_by_keyword-returns-in_default : goal.take_by_keyword-returns-in_default
+take_by_keyword-returns-in_default g t c = λ lists tests j k more h.
+    let outcome = g.E.RegexEngine.outcome in
+    let nodes = c.args.self.now.nodes.now in
+    let schemas = schemas_of outcome nodes in
+    let below = Within outcome nodes lists k in
+    let d = view c.args.instance.now in
+    let beside = keywords_of outcome c.args.beside.now in
+    let cs = children_of c.args.left.now.items in
+    text_left outcome below beside d (λ s. Evaluates schemas below s j) c.args.keyword.now c.in_default.not-Rule cs
+
+pub take_by_keyword-returns-in-Unevaluated : goal.take_by_keyword-returns-in-Unevaluated
+take_by_keyword-returns-in-Unevaluated g t c = λ lists tests j k more h.
+    let outcome = g.E.RegexEngine.outcome in
+    let nodes = c.args.self.now.nodes.now in
+    let schemas = schemas_of outcome nodes in
+    let below = Within outcome nodes lists k in
+    let d = view c.args.instance.now in
+    let beside = keywords_of outcome c.args.beside.now in
+    let cs = children_of c.args.left.now.items in
+    let ruled = c.in-Rule.ruled in
+    let word = string_bytes ruled.name in
+    let bs = branches_of ruled.branches.items in
+    let ls = children_of c.take_part.new.left.items in
+    subst (λ key. AreLeft (λ s. KeywordEvaluates below (Evaluates schemas below s j) beside d s (keyword_of outcome key)) cs ls) (sym c.in-Rule.is)
+    (subst (λ r. AreLeft (λ s. KeywordEvaluates below (Evaluates schemas below s j) beside d s (rule word (rule_of outcome r) bs)) cs ls) (sym c.in-Unevaluated.is)
+    (part_left below (λ s. Evaluates schemas below s j) beside word c.in-Unevaluated.part bs d cs ls c.take_part.ensures))
+
+pub take_by_keyword-returns-in_default-rule : goal.take_by_keyword-returns-in_default-rule
+take_by_keyword-returns-in_default-rule g t c = λ lists tests. on_ok_weaker c.take_evaluated.result (λ p j k more h.
+    let outcome = g.E.RegexEngine.outcome in
+    let nodes = c.args.self.now.nodes.now in
+    let schemas = schemas_of outcome nodes in
+    let below = Within outcome nodes lists k in
+    let d = view c.args.instance.now in
+    let beside = keywords_of outcome c.args.beside.now in
+    let cs = children_of c.args.left.now.items in
+    let ls = children_of c.take_evaluated.new.left.items in
+    subst (λ key. AreLeft (λ s. KeywordEvaluates below (Evaluates schemas below s j) beside d s (keyword_of outcome key)) cs ls) (sym c.in-Rule.is) (p j k more h))
+    (c.take_evaluated.ensures lists tests)
+
+pub take_evaluated-spans-requires : goal.take_evaluated-spans-requires
+take_evaluated-spans-requires g t c κs within =
+    (omega (arith, c.decreases), (within.0, (within.1, (c.requires.ready, (c.requires.answers, (c.requires.few, (c.requires.this, (c.requires.others, c.requires.end))))))))
+
+pub take_evaluated-take_by_target-requires : goal.take_evaluated-take_by_target-requires
+take_evaluated-take_by_target-requires g t c κs within =
+    let (lists, tests) = c.requires.answers in
+    let k = steps_for (length c.args.self.now.nodes.now) (view c.args.instance.now) c.args.steps in
+    let outcome = g.E.RegexEngine.outcome in
+    let nodes = c.args.self.now.nodes.now in
+    let below = Within outcome nodes lists k in
+    let d = view c.args.instance.now in
+    let ruled = c.args.ruled.now in
+    let word = string_bytes ruled.name in
+    let r = rule_of outcome ruled.rule in
+    let bs = branches_of ruled.branches.items in
+    let beside = keywords_of outcome c.args.beside.now in
+    let items = c.deref-target-items.result.now in
+    let spanned : AreSpans below beside (ruled_of outcome ruled) d (targets_of items) =
+    subst (λ ts. AreSpans below beside (ruled_of outcome ruled) d (targets_of ts)) (sym c.deref-target-items.ensures.value) (c.in_ok-spans.ensures lists tests k (le_refl k)) in
+    let end = span_ends d (schemas_of outcome nodes) below c.args.steps beside word r bs items c.loop-target.target-index c.target-item.result c.requires.end spanned
+    c.loop-target-test.true c.target-item.is in
+    (omega (arith, c.decreases), (within.0, (within.1, (c.requires.ready, (c.requires.answers, (c.requires.few, end))))))
+
+pub take_evaluated-loop-target-init : goal.take_evaluated-loop-target-init
+take_evaluated-loop-target-init g t c = λ lists tests j k more h. left_none (λ s. ⊥) (λ s x. x) (children_of c.args.left.now.items)
+
+pub take_evaluated-loop-target-preserved : goal.take_evaluated-loop-target-preserved
+take_evaluated-loop-target-preserved g t c = λ lists tests j k more h.
+    let outcome = g.E.RegexEngine.outcome in
+    let nodes = c.args.self.now.nodes.now in
+    left_more (λ s x. TargetEvaluates (Evaluates (schemas_of outcome nodes) (Within outcome nodes lists k) s j) s (target_of x))
+    c.deref-target-items.result.now c.loop-target.target-index c.target-item.result (children_of c.args.left.now.items) (children_of c.loop-target.left.items)
+    (children_of c.take_by_target.new.left.items) c.loop-target-test.true c.target-item.is (c.loop-target.invariant lists tests j k more h)
+    (c.in_ok-take_by_target.ensures lists tests j k more h)
+
+pub take_evaluated-returns : goal.take_evaluated-returns
+take_evaluated-returns g t c = λ lists tests j k more h.
+    let outcome = g.E.RegexEngine.outcome in
+    let nodes = c.args.self.now.nodes.now in
+    let below = Within outcome nodes lists k in
+    let d = view c.args.instance.now in
+    let ruled = c.args.ruled.now in
+    let word = string_bytes ruled.name in
+    let r = rule_of outcome ruled.rule in
+    let bs = branches_of ruled.branches.items in
+    let beside = keywords_of outcome c.args.beside.now in
+    let items = c.deref-target-items.result.now in
+    let spanned : AreSpans below beside (ruled_of outcome ruled) d (targets_of items) =
+    subst (λ ts. AreSpans below beside (ruled_of outcome ruled) d (targets_of ts)) (sym c.deref-target-items.ensures.value) (c.in_ok-spans.ensures lists tests k h) in
+    keyword_left (schemas_of outcome nodes) lists k (λ s. Evaluates (schemas_of outcome nodes) below s j) beside word r bs d (targets_of items)
+    (children_of c.args.left.now.items) (children_of c.loop-target.left.items) c.requires.speaks spanned
+    (left_all_seen (λ s x. TargetEvaluates (Evaluates (schemas_of outcome nodes) below s j) s x) target_of items c.loop-target.target-index
+    (children_of c.args.left.now.items) (children_of c.loop-target.left.items) c.loop-target-test.false (c.loop-target.invariant lists tests j k more h))
+
+pub take_by_target-take_by_schema-requires : goal.take_by_target-take_by_schema-requires
+take_by_target-take_by_schema-requires g t c κs within =
+    let here = c.requires.end (ap (λ o. path_to (option_map step_of o)) c.in-None.is) in
+    (omega (arith, c.decreases), (within.0, (within.1, (c.requires.ready, (c.requires.answers, (c.requires.few, here.0))))))
+
+pub take_by_target-returns-in-Some : goal.take_by_target-returns-in-Some
+take_by_target-returns-in-Some g t c = λ lists tests j k more h.
+    let nodes = c.args.self.now.nodes.now in
+    let schemas = schemas_of g.E.RegexEngine.outcome nodes in
+    inside_left (λ s. Evaluates schemas (Within g.E.RegexEngine.outcome nodes lists k) s j) (target_of c.args.target.now)
+    (children_of c.args.left.now.items) (children_of c.take_at.new.left.items) (step_of c.in-Some.step)
+    (ap (λ o. path_to (option_map step_of o)) c.in-Some.is) c.take_at.ensures
+
+pub take_by_target-returns-in-None : goal.take_by_target-returns-in-None
+take_by_target-returns-in-None g t c = λ lists tests. on_ok_weaker c.take_by_schema.result (λ p j k more h.
+    let nodes = c.args.self.now.nodes.now in
+    let schemas = schemas_of g.E.RegexEngine.outcome nodes in
+    let itself = ap (λ o. path_to (option_map step_of o)) c.in-None.is in
+    itself_left (λ s. Evaluates schemas (Within g.E.RegexEngine.outcome nodes lists k) s j) (target_of c.args.target.now)
+    (children_of c.args.left.now.items) (children_of c.take_by_schema.new.left.items) (view c.args.instance.now) itself (c.requires.end itself).1 (p j k more h))
+    (c.take_by_schema.ensures lists tests)
+
+pub take_by_schema-offset_bounds-self-number : goal.take_by_schema-offset_bounds-self-number
+take_by_schema-offset_bounds-self-number g t c =
+    let inside = ends_inside g.E.RegexEngine.outcome c.args.self.now.nodes.now c.args.steps c.args.number c.requires.end in
+    search (rules, scaled_fits≤)
+
+pub take_by_schema-bounds-self-number : goal.take_by_schema-bounds-self-number
+take_by_schema-bounds-self-number g t c = ends_inside g.E.RegexEngine.outcome c.args.self.now.nodes.now c.args.steps c.args.number c.requires.end
+
+pub take_by_schema-overflow_sub-steps : goal.take_by_schema-overflow_sub-steps
+take_by_schema-overflow_sub-steps g t c = let some =
+    ends_some (schemas_of g.E.RegexEngine.outcome c.args.self.now.nodes.now) c.args.steps c.args.number c.requires.end in omega arith
+
+pub take_by_schema-take_by_keyword-requires : goal.take_by_schema-take_by_keyword-requires
+take_by_schema-take_by_keyword-requires g t c κs within =
+    let outcome = g.E.RegexEngine.outcome in
+    let nodes = c.args.self.now.nodes.now in
+    let node = c.index-self-number.result in
+    let items = c.deref-keyword-items.result.now in
+    let MayCall = MayTest g.T.Fn c.args.self.now.text_accepts.now in
+    let some = ends_some (schemas_of outcome nodes) c.args.steps c.args.number c.requires.end in
+    let few : c.args.steps - 1 ≤ length nodes = omega (arith, c.requires.few) in
+    let this = keyword_ready outcome nodes c.args.number c.args.steps node c.index-self-number.is c.requires.end
+    c.in-Keywords.keywords items c.in-Keywords.is c.deref-keyword-items.ensures.value
+    MayCall c.loop-keyword.keyword-index c.keyword-item.result c.loop-keyword-test.true c.keyword-item.is c.requires.ready.each in
+    let others = keywords_ready outcome nodes c.args.number c.args.steps node c.index-self-number.is c.requires.end
+    c.in-Keywords.keywords c.deref.result.now c.in-Keywords.is c.deref.ensures.value MayCall c.requires.ready.each in
+    let end = keyword_ends outcome nodes c.args.number c.args.steps node c.index-self-number.is c.requires.end
+    c.in-Keywords.keywords items c.in-Keywords.is c.deref-keyword-items.ensures.value
+    c.loop-keyword.keyword-index c.keyword-item.result c.loop-keyword-test.true c.keyword-item.is in
+    (omega (arith, c.decreases), (within.0, (within.1, (c.requires.ready, (c.requires.answers, (few, (this, (others, end))))))))
+
+pub take_by_schema-loop-keyword-init : goal.take_by_schema-loop-keyword-init
+take_by_schema-loop-keyword-init g t c = λ lists tests j k more h. left_none (λ s. ⊥) (λ s x. x) (children_of c.args.left.now.items)
+
+pub take_by_schema-loop-keyword-preserved : goal.take_by_schema-loop-keyword-preserved
+take_by_schema-loop-keyword-preserved g t c = λ lists tests j k more h.
+    let outcome = g.E.RegexEngine.outcome in
+    let nodes = c.args.self.now.nodes.now in
+    let items = c.deref-keyword-items.result.now in
+    let below = Within outcome nodes lists k in
+    let d = view c.args.instance.now in
+    left_more (λ s key. KeywordEvaluates below (Evaluates (schemas_of outcome nodes) below s j) (keywords_of outcome items) d s (keyword_of outcome key))
+    items c.loop-keyword.keyword-index c.keyword-item.result (children_of c.args.left.now.items) (children_of c.loop-keyword.left.items)
+    (children_of c.take_by_keyword.new.left.items) c.loop-keyword-test.true c.keyword-item.is (c.loop-keyword.invariant lists tests j k more h)
+    (subst (λ l. AreLeft (λ s. KeywordEvaluates below (Evaluates (schemas_of outcome nodes) below s j) (keywords_of outcome l) d s (keyword_of outcome c.keyword-item.result))
+    (children_of c.loop-keyword.left.items) (children_of c.take_by_keyword.new.left.items))
+    (c.deref.ensures.value ∙ sym c.deref-keyword-items.ensures.value) (c.in_ok-take_by_keyword.ensures lists tests j k more h))
+
+pub take_by_schema-returns : goal.take_by_schema-returns
+take_by_schema-returns g t c = λ lists tests j k more h.
+    let outcome = g.E.RegexEngine.outcome in
+    let nodes = c.args.self.now.nodes.now in
+    let node = c.index-self-number.result in
+    let items = c.deref-keyword-items.result.now in
+    let below = Within outcome nodes lists k in
+    let d = view c.args.instance.now in
+    let some = ends_some (schemas_of outcome nodes) c.args.steps c.args.number c.requires.end in
+    keywords_left outcome nodes below c.args.number c.args.steps node c.index-self-number.is c.requires.end d (keywords_of outcome items)
+    (is_body outcome nodes c.args.number c.args.steps node c.index-self-number.is c.requires.end c.in-Keywords.keywords items c.in-Keywords.is c.deref-keyword-items.ensures.value)
+    j more (children_of c.args.left.now.items) (children_of c.loop-keyword.left.items)
+    (λ i less. left_all_seen (λ s key. KeywordEvaluates below (Evaluates (schemas_of outcome nodes) below s i) (keywords_of outcome items) d s key) (keyword_of outcome)
+    items c.loop-keyword.keyword-index (children_of c.args.left.now.items) (children_of c.loop-keyword.left.items) c.loop-keyword-test.false
+    (c.loop-keyword.invariant lists tests i k less (omega (arith, h))))
+
+pub take_by_schema-returns-in_default : goal.take_by_schema-returns-in_default
+take_by_schema-returns-in_default g t c = λ lists tests j k more h.
+    let outcome = g.E.RegexEngine.outcome in
+    let nodes = c.args.self.now.nodes.now in
+    no_keywords_left outcome nodes (Within outcome nodes lists k) c.args.number c.args.steps c.index-self-number.result c.index-self-number.is c.requires.end
+    (view c.args.instance.now) c.in_default.not-Keywords j more (children_of c.args.left.now.items)
