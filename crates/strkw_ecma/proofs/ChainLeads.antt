@@ -4,7 +4,8 @@ use Rattle.std.proofs.Common.{get_or, slice_get, Option, Some, None, refl, sym, 
 use Rattle.std.proofs.lemmas.Bool.Decides.{nat_tests}
 use Rattle.std.proofs.lemmas.List.{length-append, length-replicate}
 use Rattle.std.proofs.lemmas.Option.{none-some, same_Some, slice_get-get_or}
-use Rattle.strkw_regex_core.specs.Meaning.{Rounds, no_round, a_round, before, is_edge}
+use Rattle.strkw_regex_core.specs.machine.MarkedMeaning.{Rounds, no_round, a_round}
+use Rattle.strkw_regex_core.specs.Meaning.{before, is_edge}
 use Rattle.strkw_regex_core.specs.Program.{Instruction}
 use Rattle.strkw_ecma.specs.machine.Chains.{is_often, numbers_of, ends_of, once, repeated}
 use Rattle.strkw_ecma.specs.machine.Links.{begins_with}

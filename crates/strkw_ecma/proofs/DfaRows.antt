@@ -7,7 +7,7 @@ use Rattle.std.proofs.lemmas.List.{append-nil, get_or_append_left}
 use Rattle.std.proofs.lemmas.Bool.{cases_eq}
 use Rattle.std.proofs.lemmas.Nat.{mul-add-lt, div-mul-add}
 use Rattle.std.proofs.lemmas.Option.{none-some, same_Some, slice_get_within, slice_get-get_or}
-use Rattle.strkw_regex_core.specs.Tree.{Pattern}
+use Rattle.strkw_regex_core.specs.machine.MarkedPattern.{MarkedPattern}
 use Rattle.strkw_regex_core.specs.Meaning.{is_word, is_edge}
 use Rattle.strkw_regex_core.specs.machine.Positions.{leaves, step, mark_classes}
 use Rattle.strkw_ecma.specs.machine.Dfa.{entry_at, found_row, next_row, row_after, marks_in, IsStateOf, IsBehind, IsEntry, IsRow, AreRows, IsDraft}
@@ -49,7 +49,7 @@ entry_stays before after i front within =
     ap (λ (l : List ℕ). get_or l i 0) front.1 ∙ get_or_append_left before front.0 0 i within
 
 -- an entry stays right when states are added
-entry_grows : (p : Pattern) (end : ℕ) (states later : List State) (s : State) (row c entry : ℕ) → IsFront states later
+entry_grows : (p : MarkedPattern) (end : ℕ) (states later : List State) (s : State) (row c entry : ℕ) → IsFront states later
     → IsEntry p end states s row c entry → IsEntry p end later s row c entry
 entry_grows p end states later s row c entry front right =
     record {
@@ -62,7 +62,7 @@ entry_grows p end states later s row c entry front right =
     }
 
 -- a row stays right when states and entries are added
-row_grows : (p : Pattern) (samples before after : List ℕ) (states later : List State) (s : State) (row : ℕ) → IsFront before after → IsFront states later
+row_grows : (p : MarkedPattern) (samples before after : List ℕ) (states later : List State) (s : State) (row : ℕ) → IsFront before after → IsFront states later
     → row + length samples < length before → IsRow p samples before states s row → IsRow p samples after later s row
 row_grows p samples before after states later s row entries more within right =
     record {
@@ -83,13 +83,13 @@ one_longer : (before after : List ℕ) (e : ℕ) → after ≡ before ++ e ∷ [
 one_longer before after e longer = ap length longer ∙ length-append before (e ∷ []) ∙ omega arith
 
 -- the entry that says found is right where the pattern is left
-pub entry_finds : (p : Pattern) (end : ℕ) (states : List State) (s : State) (row c : ℕ) → leaves s.last (Some c) (marks_in p s) true ≡ true
+pub entry_finds : (p : MarkedPattern) (end : ℕ) (states : List State) (s : State) (row c : ℕ) → leaves s.last (Some c) (marks_in p s) true ≡ true
     → IsEntry p end states s row c found_row
 entry_finds p end states s row c is = record { finds = sym is; goes = λ none. absurd (true≢false (sym is ∙ none)) }
 
 -- the entry that is the place of the row of a number is right where the pattern is not left, and the state of the
 -- number is behind the character
-pub entry_leads : (p : Pattern) (end : ℕ) (states : List State) (s : State) (row c entry number : ℕ) (ms : List Bool)
+pub entry_leads : (p : MarkedPattern) (end : ℕ) (states : List State) (s : State) (row c entry number : ℕ) (ms : List Bool)
     → leaves s.last (Some c) (marks_in p s) true ≡ false → mark_classes ms p ≡ step s.last (Some c) (marks_in p s) true → IsStateOf p states number ms c
     → (entry ≡ number * (end + 1)) × (entry < next_row) → IsEntry p end states s row c entry
 entry_leads p end states s row c entry number ms none stepped t place =
@@ -113,7 +113,7 @@ in_last [] x = refl
 in_last (y ∷ xs) x = in_last xs x
 
 -- a state that is added has the number of those before it
-pub state_added : (p : Pattern) (states later : List State) (t : State) (number : ℕ) (ms : List Bool) (c : ℕ) → later ≡ states ++ t ∷ []
+pub state_added : (p : MarkedPattern) (states later : List State) (t : State) (number : ℕ) (ms : List Bool) (c : ℕ) → later ≡ states ++ t ∷ []
     → number ≡ length states → t.marks.items ≡ ms → t.last ≡ Some c → IsStateOf p later number ms c
 state_added p states later t number ms c longer here marks last =
     let there : slice_get later number ≡ Some t = ap (λ (l : List State). slice_get l number) longer
@@ -121,7 +121,7 @@ state_added p states later t number ms c longer here marks last =
     (t, there, marks, λ _. ap is_word last, ap is_edge last)
 
 -- no entries are right before the first is added
-pub entries_begin : (p : Pattern) (samples before : List ℕ) (states : List State) (number : ℕ) → AreEntries p samples before before states states number 0
+pub entries_begin : (p : MarkedPattern) (samples before : List ℕ) (states : List State) (number : ℕ) → AreEntries p samples before before states states number 0
 entries_begin p samples before states number =
     record {
       entries_stay = front_same before;
@@ -131,7 +131,7 @@ entries_begin p samples before states number =
     }
 
 -- one more entry that is right is added to so many
-pub entry_added : (p : Pattern) (samples before after longer : List ℕ) (states later last : List State) (number columns c e : ℕ)
+pub entry_added : (p : MarkedPattern) (samples before after longer : List ℕ) (states later last : List State) (number columns c e : ℕ)
     → AreEntries p samples before after states later number columns → IsFront later last → longer ≡ after ++ e ∷ [] → c ≡ get_or samples columns 0
     → ((s : State) → slice_get later number ≡ Some s → (row : ℕ) → IsEntry p (length samples) last s row c e)
     → AreEntries p samples before longer states last number (columns + 1)
@@ -154,7 +154,7 @@ entry_added p samples before after longer states later last number columns c e d
     }
 
 -- behind the entries of a state and all columns that for the end of the text makes one more row
-pub row_added : (p : Pattern) (samples before after longer : List ℕ) (states later : List State) (number e : ℕ) (s : State)
+pub row_added : (p : MarkedPattern) (samples before after longer : List ℕ) (states later : List State) (number e : ℕ) (s : State)
     → IsDraft p samples before states number → AreEntries p samples before after states later number (length samples) → number < length states
     → slice_get later number ≡ Some s → (e == found_row) ≡ leaves s.last None (marks_in p s) true → longer ≡ after ++ e ∷ []
     → IsDraft p samples longer later (number + 1)
@@ -189,7 +189,7 @@ row_added p samples before after longer states later number e s draft done withi
     }
 
 -- where each state has its row, these are the rows of a table
-pub rows_of_draft : (p : Pattern) (samples entries : List ℕ) (states : List State) (number : ℕ) → IsDraft p samples entries states number
+pub rows_of_draft : (p : MarkedPattern) (samples entries : List ℕ) (states : List State) (number : ℕ) → IsDraft p samples entries states number
     → length states ≤ number → AreRows p samples entries states
 rows_of_draft p samples entries states number draft all row s of_row =
     let n = of_row.0 in
@@ -229,7 +229,7 @@ marked_same end number column place es fs inside at within is low written i =
     (cases_eq i place)
 
 -- rows are right in a table that says the same
-pub rows_stay : (p : Pattern) (samples es fs : List ℕ) (states : List State) → SayTheSame (length samples) es fs → AreRows p samples es states
+pub rows_stay : (p : MarkedPattern) (samples es fs : List ℕ) (states : List State) → SayTheSame (length samples) es fs → AreRows p samples es states
     → AreRows p samples fs states
 rows_stay p samples es fs states same rows row s of_row =
     let end = length samples in
@@ -250,7 +250,7 @@ rows_stay p samples es fs states same rows row s of_row =
     }
 
 -- and in its entries as they are written back
-pub rows_written : (p : Pattern) (samples es from fs written : List ℕ) (states : List State) (end : ℕ) → SayTheSame end from fs → end ≡ length samples
+pub rows_written : (p : MarkedPattern) (samples es from fs written : List ℕ) (states : List State) (end : ℕ) → SayTheSame end from fs → end ≡ length samples
     → from ≡ es → written ≡ fs → AreRows p samples es states → AreRows p samples written states
 rows_written p samples es from fs written states end same is_end is_from is_written rows =
     let says : SayTheSame (length samples) es written =

@@ -3,7 +3,7 @@ use Rattle.std.proofs.Common.{◌≡◌, ℕ, ◌==◌, Bool, true, false, ◌||
 use Rattle.std.proofs.Common.{◌∙◌, true≢false}
 use Rattle.std.specs.Prelude.{is_some}
 use Rattle.std.proofs.lemmas.Bool.{eq-eqb}
-use Rattle.strkw_regex_core.specs.Tree.{Pattern}
+use Rattle.strkw_regex_core.specs.machine.MarkedPattern.{MarkedPattern}
 use Rattle.strkw_regex_core.specs.machine.Positions.{leaves, step}
 use Rattle.strkw_regex_search.specs.machine.Search.{search_from}
 use Rattle.strkw_ecma.specs.machine.Dfa.{entry_at, found_row, row_after, walk}
@@ -48,11 +48,11 @@ walk_of_rows column row text {end} {end'} {entries} {entries'} same_end same_ent
     ap (λ (n : ℕ). walk column n entries row text) same_end ∙ ap (λ (es : List ℕ). walk column end' es row text) same_entries
 
 -- a relation of rows to states of the search that each entry keeps
-module _ (column : ℕ → Option ℕ) (end : ℕ) (entries : List ℕ) (At : ℕ → Pattern → Option ℕ → Type 0)
-    (ends : (row : ℕ) (p : Pattern) (b : Option ℕ) → At row p b → (entry_at entries row end == found_row) ≡ leaves b None p true)
-    (finds : (row : ℕ) (p : Pattern) (b : Option ℕ) (c k : ℕ) → column c ≡ Some k → At row p b
+module _ (column : ℕ → Option ℕ) (end : ℕ) (entries : List ℕ) (At : ℕ → MarkedPattern → Option ℕ → Type 0)
+    (ends : (row : ℕ) (p : MarkedPattern) (b : Option ℕ) → At row p b → (entry_at entries row end == found_row) ≡ leaves b None p true)
+    (finds : (row : ℕ) (p : MarkedPattern) (b : Option ℕ) (c k : ℕ) → column c ≡ Some k → At row p b
     → (entry_at entries row k == found_row) ≡ leaves b (Some c) p true)
-    (goes : (row : ℕ) (p : Pattern) (b : Option ℕ) (c k : ℕ) → column c ≡ Some k → At row p b → leaves b (Some c) p true ≡ false
+    (goes : (row : ℕ) (p : MarkedPattern) (b : Option ℕ) (c k : ℕ) → column c ≡ Some k → At row p b → leaves b (Some c) p true ≡ false
     → At (row_after end row (entry_at entries row k)) (step b (Some c) p true) (Some c)) where
   -- the search goes on where nothing is found
   one_turn : (x l m : Bool) (o : Option Bool) (answer : Bool) → x ≡ l → (l ≡ false → o ≡ Some answer → answer ≡ m)
@@ -67,7 +67,7 @@ module _ (column : ℕ → Option ℕ) (end : ℕ) (entries : List ℕ) (At : �
   at_column c f (Some k) answer A is there h = there k is h
 
   -- from a row that stands for a state, the walk comes to what the search from there does
-  pub walks : (text : List ℕ) (row : ℕ) (p : Pattern) (b : Option ℕ) (answer : Bool) → At row p b
+  pub walks : (text : List ℕ) (row : ℕ) (p : MarkedPattern) (b : Option ℕ) (answer : Bool) → At row p b
       → walk column end entries row text ≡ Some answer → answer ≡ search_from p b text
   walks [] row p b answer at h = sym (some_same _ answer h) ∙ ends row p b at
   walks (c ∷ cs) row p b answer at h =

@@ -1,6 +1,7 @@
 -- Characters about which the classes of a pattern give the same answers: the pattern does not tell them apart.
 use Rattle.std.proofs.Common.{◌≡◌, ℕ, Bool, true, false, ◌&&◌, ◌||◌, List, Vec, Global, Option, Some, drop, refl, sym, ap, ◌∙◌, ⊎_elim, true≢false}
-use Rattle.strkw_regex_core.specs.Tree.{Look, Pattern, empty, class, look, cat, alt, star, plus, lookbehind, lookahead, start, end, boundary}
+use Rattle.strkw_regex_core.specs.Tree.{Look, start, end, boundary}
+use Rattle.strkw_regex_core.specs.machine.MarkedPattern.{MarkedPattern, empty, class, look, cat, alt, star, plus, lookbehind, lookahead}
 use Rattle.strkw_regex_core.specs.Tree.{no_boundary}
 use Rattle.strkw_charset.specs.Membership.{differ}
 use Rattle.strkw_regex_core.specs.Meaning.{is_word, is_edge, holds}
@@ -14,16 +15,16 @@ use Rattle.strkw_charset.proofs.Booleans.{or_case, or_left, or_right}
 
 -- between characters that ^, $ and, where p has them, \b and \B do not tell apart
 -- where p has \b or \B, both are word characters or neither is
-unfoldable pub SameWord : Pattern → Option ℕ → Option ℕ → Type 0
+unfoldable pub SameWord : MarkedPattern → Option ℕ → Option ℕ → Type 0
 SameWord p b e = has_boundary p ≡ true → is_word b ≡ is_word e
 
 -- characters alike for two patterns together are alike for the first
-pub first_word : (p q : Pattern) (b e : Option ℕ) → ((has_boundary p || has_boundary q) ≡ true → is_word b ≡ is_word e) → SameWord p b e
+pub first_word : (p q : MarkedPattern) (b e : Option ℕ) → ((has_boundary p || has_boundary q) ≡ true → is_word b ≡ is_word e) → SameWord p b e
 unfolding SameWord
 first_word p q b e same h = same (or_left _ _ h)
 
 -- and for the second
-pub other_word : (p q : Pattern) (b e : Option ℕ) → ((has_boundary p || has_boundary q) ≡ true → is_word b ≡ is_word e) → SameWord q b e
+pub other_word : (p q : MarkedPattern) (b e : Option ℕ) → ((has_boundary p || has_boundary q) ≡ true → is_word b ≡ is_word e) → SameWord q b e
 unfolding SameWord
 other_word p q b e same h = same (or_right (has_boundary p) _ h)
 
@@ -38,7 +39,7 @@ module _ (ks : List (Vec CharSet Global)) (b e a d : Option ℕ) (edge : is_edge
   same_look no_boundary word next_word = rw (word refl, next_word refl) refl
 
   -- a glance is seen alike between such characters
-  same_sees : (p : Pattern) → (sees_boundary p ≡ true → is_word b ≡ is_word e) → (sees_boundary p ≡ true → is_word a ≡ is_word d) → TellsGlance ks p
+  same_sees : (p : MarkedPattern) → (sees_boundary p ≡ true → is_word b ≡ is_word e) → (sees_boundary p ≡ true → is_word a ≡ is_word d) → TellsGlance ks p
       → sees b a p ≡ sees e d p
   same_sees empty word next t = refl
   same_sees (class m n rs) word next t = same_reads n rs t
@@ -55,7 +56,7 @@ module _ (ks : List (Vec CharSet Global)) (b e a d : Option ℕ) (edge : is_edge
   same_sees (lookahead n p) word next t = ap (differ n) (same_sees p word next t)
 
   -- and a pattern is left alike
-  pub same_leaves : (p : Pattern) (x : Bool) → SameWord p b e → SameWord p a d → Tells ks p → leaves b a p x ≡ leaves e d p x
+  pub same_leaves : (p : MarkedPattern) (x : Bool) → SameWord p b e → SameWord p a d → Tells ks p → leaves b a p x ≡ leaves e d p x
   unfolding SameWord
   same_leaves empty x word next t = refl
   same_leaves (class m n rs) x word next t = refl
@@ -74,7 +75,7 @@ module _ (ks : List (Vec CharSet Global)) (b e a d : Option ℕ) (edge : is_edge
 
 module _ (ks : List (Vec CharSet Global)) (c d : ℕ) (same : answers 0 ks c ≡ answers 0 ks d) where
   -- as far as a glance asks for word characters, both are, or neither
-  next_seen : (p : Pattern) → TellsGlance ks p → sees_boundary p ≡ true → is_word (Some c) ≡ is_word (Some d)
+  next_seen : (p : MarkedPattern) → TellsGlance ks p → sees_boundary p ≡ true → is_word (Some c) ≡ is_word (Some d)
   next_seen empty t h = absurd (true≢false (sym h))
   next_seen (class m n rs) t h = absurd (true≢false (sym h))
   next_seen (look l) t h = t h c d same
@@ -86,7 +87,7 @@ module _ (ks : List (Vec CharSet Global)) (c d : ℕ) (same : answers 0 ks c ≡
   next_seen (lookahead n p) t h = next_seen p t h
 
   -- as far as the pattern asks for word characters, both are, or neither
-  pub next_word : (p : Pattern) → Tells ks p → SameWord p (Some c) (Some d)
+  pub next_word : (p : MarkedPattern) → Tells ks p → SameWord p (Some c) (Some d)
   unfolding SameWord
   next_word empty t h = absurd (true≢false (sym h))
   next_word (class m n rs) t h = absurd (true≢false (sym h))
@@ -100,12 +101,12 @@ module _ (ks : List (Vec CharSet Global)) (c d : ℕ) (same : answers 0 ks c ≡
 
   module _ (b e : Option ℕ) (edge : is_edge b ≡ is_edge e) where
     -- between either of the two and characters alike the pattern is left alike
-    pub left : (p : Pattern) (x : Bool) → SameWord p b e → Tells ks p → leaves b (Some c) p x ≡ leaves e (Some d) p x
+    pub left : (p : MarkedPattern) (x : Bool) → SameWord p b e → Tells ks p → leaves b (Some c) p x ≡ leaves e (Some d) p x
     left p x word t =
         same_leaves ks b e (Some c) (Some d) edge refl (λ n rs told. ap (differ n) (told c d same)) p x word (next_word p t) t
 
     -- and a step over either leads to the same marks
-    pub same_step : (p : Pattern) (x : Bool) → SameWord p b e → Tells ks p → step b (Some c) p x ≡ step e (Some d) p x
+    pub same_step : (p : MarkedPattern) (x : Bool) → SameWord p b e → Tells ks p → step b (Some c) p x ≡ step e (Some d) p x
     unfolding SameWord
     same_step empty x word t = refl
     same_step (class m n rs) x word t = ap (λ (y : Bool). class (x && differ n y) n rs) (t c d same)
@@ -114,9 +115,9 @@ module _ (ks : List (Vec CharSet Global)) (c d : ℕ) (same : answers 0 ks c ≡
         let one = first_word p q b e word in
         let other = other_word p q b e word in
         let q_is = ap (step b (Some c) q) (left p x one t.0) ∙ same_step q _ other t.1 in
-        ap (λ (y : Pattern). cat y (step b (Some c) q (leaves b (Some c) p x))) (same_step p x one t.0) ∙ ap (cat (step e (Some d) p x)) q_is
+        ap (λ (y : MarkedPattern). cat y (step b (Some c) q (leaves b (Some c) p x))) (same_step p x one t.0) ∙ ap (cat (step e (Some d) p x)) q_is
     same_step (alt p q) x word t =
-        ap (λ (y : Pattern). alt y (step b (Some c) q x)) (same_step p x (first_word p q b e word) t.0)
+        ap (λ (y : MarkedPattern). alt y (step b (Some c) q x)) (same_step p x (first_word p q b e word) t.0)
         ∙ ap (alt (step e (Some d) p x)) (same_step q x (other_word p q b e word) t.1)
     same_step (star p) x word t =
         ap (λ (y : Bool). star (step b (Some c) p (x || y))) (left p false word t) ∙ ap star (same_step p _ word t)
@@ -126,7 +127,7 @@ module _ (ks : List (Vec CharSet Global)) (c d : ℕ) (same : answers 0 ks c ≡
     same_step (lookahead n p) x word t = refl
 
 -- with marks a pattern asks the same
-pub marked_tells : (ks : List (Vec CharSet Global)) (ms : List Bool) (p : Pattern) → Tells ks p → Tells ks (mark_classes ms p)
+pub marked_tells : (ks : List (Vec CharSet Global)) (ms : List Bool) (p : MarkedPattern) → Tells ks p → Tells ks (mark_classes ms p)
 marked_tells ks ms empty t = t
 marked_tells ks ms (class m n rs) t = t
 marked_tells ks ms (look l) t = t
@@ -138,7 +139,7 @@ marked_tells ks ms (lookbehind n p) t = marked_tells ks ms p t
 marked_tells ks ms (lookahead n p) t = t
 
 -- marks change nothing of whether \b or \B stands in a pattern
-marked_boundary : (ms : List Bool) (p : Pattern) → has_boundary (mark_classes ms p) ≡ has_boundary p
+marked_boundary : (ms : List Bool) (p : MarkedPattern) → has_boundary (mark_classes ms p) ≡ has_boundary p
 marked_boundary ms empty = refl
 marked_boundary ms (class m n rs) = refl
 marked_boundary ms (look l) = refl
@@ -150,6 +151,6 @@ marked_boundary ms (lookbehind n p) = marked_boundary ms p
 marked_boundary ms (lookahead n p) = refl
 
 -- characters alike for a pattern are alike for it with other marks
-pub marked_word : (ms : List Bool) (p : Pattern) (b e : Option ℕ) → SameWord p b e → SameWord (mark_classes ms p) b e
+pub marked_word : (ms : List Bool) (p : MarkedPattern) (b e : Option ℕ) → SameWord p b e → SameWord (mark_classes ms p) b e
 unfolding SameWord
 marked_word ms p b e same h = same (sym (marked_boundary ms p) ∙ h)

@@ -1,7 +1,7 @@
 -- What looks for parts, one after the other.
 use Rattle.std.proofs.Common.{◌≡◌, ℕ, Bool, true, false, ◌&&◌, List, [], ◌∷◌, ◌++◌, refl, sym, ap, ◌∙◌}
 use Rattle.strkw_charset.specs.Membership.{differ}
-use Rattle.strkw_regex_core.specs.Mirror.{along}
+use Rattle.strkw_regex_core.specs.machine.Mirror.{along}
 use Rattle.strkw_ecma.specs.machine.Engine.{is_found_by, are_found_by}
 use Rattle.strkw_regex_search.specs.machine.Passes.{Pass, pass_of, are_passes_found}
 use Rattle.strkw_regex_search.specs.machine.Search.{found_in}

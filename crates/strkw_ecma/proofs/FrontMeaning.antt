@@ -3,13 +3,15 @@ use Rattle.std.proofs.Common.{◌≡◌, ◌↔◌, ◌⊎◌, inl, inr, ℕ, ze
 use Rattle.std.proofs.Common.{Some, refl, sym, ap, subst, ◌∙◌, true≢false, arith, if◌then◌else◌, IsTrue}
 use Rattle.std.specs.Prelude.{⊤}
 use Rattle.std.proofs.lemmas.Option.{slice_get-get_or}
-use Rattle.strkw_regex_core.specs.Tree.{start, end, boundary, no_boundary, Pattern, empty, class, look, cat, alt, star, plus, lookbehind, lookahead}
+use Rattle.strkw_regex_core.specs.Tree.{start, end, boundary, no_boundary}
+use Rattle.strkw_regex_core.specs.machine.MarkedPattern.{MarkedPattern, empty, class, look, cat, alt, star, plus, lookbehind, lookahead}
 use Rattle.strkw_charset.specs.Membership.{differ}
-use Rattle.strkw_regex_core.specs.Meaning.{before, is_edge, Unless, Matches, Found}
+use Rattle.strkw_regex_core.specs.Meaning.{before, is_edge, Unless}
+use Rattle.strkw_regex_core.specs.machine.MarkedMeaning.{Matches, Found}
 use Rattle.strkw_regex_core.specs.LeadingLookahead.{Part, first_lead, lead, lead_behind, reads_nothing, is_far, is_apart_behind, part_of, fronts, rest, parts}
 use Rattle.strkw_regex_core.specs.LeadingLookahead.{AreFound}
 use Rattle.strkw_regex_core.specs.machine.Positions.{is_unmarked}
-use Rattle.strkw_regex_core.specs.Mirror.{target, sought_in}
+use Rattle.strkw_regex_core.specs.machine.Mirror.{target, sought_in}
 use Rattle.strkw_regex_search.specs.machine.Search.{search, are_parts_found, are_parts_clean}
 use Rattle.strkw_regex_core.specs.declared.leading_lookahead.Lead.{Lead}
 use Rattle.strkw_regex_core.specs.declared.leading_lookahead.Lead.TheVariants.{Nothing, Anchored, Past}
@@ -43,7 +45,7 @@ never_nothing true e = true≢false (sym e)
 never_nothing false e = true≢false (sym e)
 
 -- a term that is a part of its own stands behind `^`
-anchors : (l : Lead) (t : Pattern) → is_apart_behind l t ≡ true → is_anchored l ≡ true
+anchors : (l : Lead) (t : MarkedPattern) → is_apart_behind l t ≡ true → is_anchored l ≡ true
 anchors Nothing t e = absurd (true≢false (sym e))
 anchors Anchored t e = refl
 anchors Past t e = absurd (true≢false (sym e))
@@ -63,7 +65,7 @@ module _ (text : List ℕ) where
   )
 
   -- what reads nothing ends where it begins
-  reads_none : (q : Pattern) (i j : ℕ) → reads_nothing q ≡ true → Matches text q i j → i ≡ j
+  reads_none : (q : MarkedPattern) (i j : ℕ) → reads_nothing q ≡ true → Matches text q i j → i ≡ j
   reads_none empty i j e m = m
   reads_none (class b n rs) i j e m = absurd (true≢false (sym e))
   reads_none (look l) i j e m = m.1
@@ -75,7 +77,7 @@ module _ (text : List ℕ) where
   reads_none (lookahead n p) i j e m = m.1
 
   -- a lookahead reads nothing
-  far_reads_none : (q : Pattern) → is_far q ≡ true → reads_nothing q ≡ true
+  far_reads_none : (q : MarkedPattern) → is_far q ≡ true → reads_nothing q ≡ true
   far_reads_none empty f = refl
   far_reads_none (class b n rs) f = absurd (true≢false (sym f))
   far_reads_none (look l) f = refl
@@ -87,7 +89,7 @@ module _ (text : List ℕ) where
   far_reads_none (lookahead n p) f = refl
 
   -- a first term that is nothing reads nothing
-  first_nothing : (q : Pattern) (i j : ℕ) → is_nothing (first_lead q) ≡ true → Matches text q i j → i ≡ j
+  first_nothing : (q : MarkedPattern) (i j : ℕ) → is_nothing (first_lead q) ≡ true → Matches text q i j → i ≡ j
   first_nothing empty i j e m = m
   first_nothing (class b n rs) i j e m = absurd (true≢false (sym e))
   first_nothing (look l) i j e m = m.1
@@ -99,7 +101,7 @@ module _ (text : List ℕ) where
   first_nothing (lookahead n p) i j e m = absurd (true≢false (sym e))
 
   -- one that anchors is `^`
-  first_anchored : (q : Pattern) (i j : ℕ) → is_anchored (first_lead q) ≡ true → Matches text q i j → (i ≡ j) × (is_edge (before text i) ≡ true)
+  first_anchored : (q : MarkedPattern) (i j : ℕ) → is_anchored (first_lead q) ≡ true → Matches text q i j → (i ≡ j) × (is_edge (before text i) ≡ true)
   first_anchored empty i j e m = absurd (true≢false (sym e))
   first_anchored (class b n rs) i j e m = absurd (true≢false (sym e))
   first_anchored (look start) i j e m = (m.1, m.0)
@@ -115,7 +117,7 @@ module _ (text : List ℕ) where
 
   -- the rest of a front that is nothing reads nothing
   -- of two terms, where that is so of the first
-  rest_nothing_cat : (p q : Pattern) (i j : ℕ) (first : (k : ℕ) → is_nothing (lead p) ≡ true → Matches text (rest p) i k → i ≡ k)
+  rest_nothing_cat : (p q : MarkedPattern) (i j : ℕ) (first : (k : ℕ) → is_nothing (lead p) ≡ true → Matches text (rest p) i k → i ≡ k)
       (l : Lead) → lead p ≡ l → is_nothing (lead (cat p q)) ≡ true → Matches text (rest (cat p q)) i j → i ≡ j
   rest_nothing_cat p q i j first Nothing is e m =
       let with : is_apart_behind (lead p) q ≡ false = ap (λ (l : Lead). is_apart_behind l q) is in
@@ -127,7 +129,7 @@ module _ (text : List ℕ) where
   rest_nothing_cat p q i j first Past is e m = absurd (true≢false (sym e ∙ ap (λ (l : Lead). is_nothing (lead_behind l q)) is))
 
   -- of each pattern
-  rest_nothing : (p : Pattern) (i j : ℕ) → is_nothing (lead p) ≡ true → Matches text (rest p) i j → i ≡ j
+  rest_nothing : (p : MarkedPattern) (i j : ℕ) → is_nothing (lead p) ≡ true → Matches text (rest p) i j → i ≡ j
   rest_nothing empty i j e m = first_nothing empty i j e m
   rest_nothing (class b n rs) i j e m = first_nothing (class b n rs) i j e m
   rest_nothing (look l) i j e m = first_nothing (look l) i j e m
@@ -140,7 +142,7 @@ module _ (text : List ℕ) where
 
   -- that of one with `^` matches at the beginning of the text alone, and reads nothing
   -- of two terms, where that is so of the first: by whether the second is a part of its own
-  rest_anchored_on : (p q : Pattern) (i j : ℕ)
+  rest_anchored_on : (p q : MarkedPattern) (i j : ℕ)
       (first : (k : ℕ) → is_anchored (lead p) ≡ true → Matches text (rest p) i k → (i ≡ k) × (is_edge (before text i) ≡ true))
       (b : Bool) → is_anchored (lead p) ≡ true → reads_nothing q ≡ true → is_apart_behind (lead p) q ≡ b
       → Matches text (rest (cat p q)) i j → (i ≡ j) × (is_edge (before text i) ≡ true)
@@ -151,7 +153,7 @@ module _ (text : List ℕ) where
       (stands.0 ∙ reads_none q n.0 j none n.2, stands.1)
 
   -- and by what the first is
-  rest_anchored_cat : (p q : Pattern) (i j : ℕ)
+  rest_anchored_cat : (p q : MarkedPattern) (i j : ℕ)
       (first : (k : ℕ) → is_anchored (lead p) ≡ true → Matches text (rest p) i k → (i ≡ k) × (is_edge (before text i) ≡ true))
       (l : Lead) → lead p ≡ l → is_anchored (lead (cat p q)) ≡ true → Matches text (rest (cat p q)) i j
       → (i ≡ j) × (is_edge (before text i) ≡ true)
@@ -167,7 +169,7 @@ module _ (text : List ℕ) where
   rest_anchored_cat p q i j first Past is e m = absurd (true≢false (sym e ∙ ap (λ (l : Lead). is_anchored (lead_behind l q)) is))
 
   -- so the rest of a front that is anchored reads nothing, and stands at the beginning of the text
-  rest_anchored : (p : Pattern) (i j : ℕ) → is_anchored (lead p) ≡ true → Matches text (rest p) i j → (i ≡ j) × (is_edge (before text i) ≡ true)
+  rest_anchored : (p : MarkedPattern) (i j : ℕ) → is_anchored (lead p) ≡ true → Matches text (rest p) i j → (i ≡ j) × (is_edge (before text i) ≡ true)
   rest_anchored empty i j e m = first_anchored empty i j e m
   rest_anchored (class b n rs) i j e m = first_anchored (class b n rs) i j e m
   rest_anchored (look l) i j e m = first_anchored (look l) i j e m
@@ -179,7 +181,7 @@ module _ (text : List ℕ) where
   rest_anchored (lookahead n p) i j e m = first_anchored (lookahead n p) i j e m
 
   -- at the beginning of the text a pattern matches as it does behind `^`
-  from_start : (q : Pattern) (i : ℕ) → is_edge (before text i) ≡ true
+  from_start : (q : MarkedPattern) (i : ℕ) → is_edge (before text i) ≡ true
       → ((k : ℕ) × Matches text q i k) ↔ ((k : ℕ) × Matches text (cat (look start) q) i k)
   from_start q i e = (
     λ m. (m.0, (i, (e, refl), m.1)),
@@ -187,7 +189,7 @@ module _ (text : List ℕ) where
   )
 
   -- a lookahead at the beginning holds there exactly where its part does
-  part_holds : (q : Pattern) (i : ℕ) → is_far q ≡ true → is_edge (before text i) ≡ true
+  part_holds : (q : MarkedPattern) (i : ℕ) → is_far q ≡ true → is_edge (before text i) ≡ true
       → Matches text q i i ↔ Hold (part_of q) i
   part_holds empty i f e = absurd (true≢false (sym f))
   part_holds (class b n rs) i f e = absurd (true≢false (sym f))
@@ -205,11 +207,11 @@ module _ (text : List ℕ) where
       )
 
   -- a pattern matches exactly where its rest does, with the parts of lookaheads from there on
-  abbrev ByParts : Pattern → ℕ → ℕ → Type 0
+  abbrev ByParts : MarkedPattern → ℕ → ℕ → Type 0
   ByParts p i j = Matches text p i j ↔ (Matches text (rest p) i j × Hold (fronts p) i)
 
   -- of two terms, where that is so of the first: by whether the second is a part of its own
-  by_parts_cat : (p q : Pattern) (i j : ℕ) (first : (k : ℕ) → ByParts p i k) (b : Bool) → is_apart_behind (lead p) q ≡ b → ByParts (cat p q) i j
+  by_parts_cat : (p q : MarkedPattern) (i j : ℕ) (first : (k : ℕ) → ByParts p i k) (b : Bool) → is_apart_behind (lead p) q ≡ b → ByParts (cat p q) i j
   by_parts_cat p q i j first false with = (
     λ m. let n = (first m.0).0 m.1 in (
       subst (λ r. Matches text r i j) (sym (rest_with p q with)) (m.0, n.0, m.2),
@@ -241,7 +243,7 @@ module _ (text : List ℕ) where
       )
 
   -- each pattern does so
-  by_parts : (p : Pattern) (i j : ℕ) → ByParts p i j
+  by_parts : (p : MarkedPattern) (i j : ℕ) → ByParts p i j
   by_parts empty i j = (λ m. (m, tt), λ m. m.0)
   by_parts (class b n rs) i j = (λ m. (m, tt), λ m. m.0)
   by_parts (look l) i j = (λ m. (m, tt), λ m. m.0)
@@ -262,7 +264,7 @@ module _ (text : List ℕ) where
   -- each part begins with `^`
   abbrev Begin : List Part → Type 0
   Begin [] = ⊤
-  Begin (x ∷ xs) = ((q : Pattern) × (x.pattern ≡ cat (look start) q)) × Begin xs
+  Begin (x ∷ xs) = ((q : MarkedPattern) × (x.pattern ≡ cat (look start) q)) × Begin xs
 
   -- so do those of two lists
   begin_append : (xs ys : List Part) → Begin xs → Begin ys → Begin (xs ++ ys)
@@ -270,7 +272,7 @@ module _ (text : List ℕ) where
   begin_append (x ∷ xs) ys u w = (u.0, begin_append xs ys u.1 w)
 
   -- a term that is a part begins so
-  part_begins : (q : Pattern) → Begin (part_of q)
+  part_begins : (q : MarkedPattern) → Begin (part_of q)
   part_begins empty = tt
   part_begins (class b n rs) = tt
   part_begins (look l) = tt
@@ -282,7 +284,7 @@ module _ (text : List ℕ) where
   part_begins (lookahead n p) = ((p, refl), tt)
 
   -- and so does each part of a pattern
-  fronts_begin : (p : Pattern) → Begin (fronts p)
+  fronts_begin : (p : MarkedPattern) → Begin (fronts p)
   fronts_begin empty = tt
   fronts_begin (class b n rs) = tt
   fronts_begin (look l) = tt
@@ -298,7 +300,7 @@ module _ (text : List ℕ) where
   fronts_begin (lookahead n p) = tt
 
   -- what begins with `^` is found exactly where it matches from the beginning on
-  found_at_start : (p q : Pattern) → p ≡ cat (look start) q → ((k : ℕ) × Matches text p 0 k) ↔ Found p text
+  found_at_start : (p q : MarkedPattern) → p ≡ cat (look start) q → ((k : ℕ) × Matches text p 0 k) ↔ Found p text
   found_at_start p q is = (
     λ m. (0, m.0, omega arith, m.1),
     λ f. let m : Matches text (cat (look start) q) f.0 f.1 = subst (λ p. Matches text p f.0 f.1) is f.3 in
@@ -318,16 +320,16 @@ module _ (text : List ℕ) where
       )
 
   -- the rest of what has such parts matches from the beginning alone
-  abbrev IsAnchored : Pattern → ℕ → Type 0
+  abbrev IsAnchored : MarkedPattern → ℕ → Type 0
   IsAnchored p i = (fronts p ≡ []) ⊎ (is_edge (before text i) ≡ true)
 
   -- of two terms, of which the second is no part
-  anchored_with : (p q : Pattern) (i : ℕ) → is_apart_behind (lead p) q ≡ false → IsAnchored p i → IsAnchored (cat p q) i
+  anchored_with : (p q : MarkedPattern) (i : ℕ) → is_apart_behind (lead p) q ≡ false → IsAnchored p i → IsAnchored (cat p q) i
   anchored_with p q i with (inl none) = inl (fronts_with p q with ∙ none)
   anchored_with p q i with (inr edge) = inr edge
 
   -- of two terms, where that is so of the first: by whether the second is a part of its own
-  anchored_cat : (p q : Pattern) (i j : ℕ) (first : (k : ℕ) → Matches text (rest p) i k → IsAnchored p i) (b : Bool)
+  anchored_cat : (p q : MarkedPattern) (i j : ℕ) (first : (k : ℕ) → Matches text (rest p) i k → IsAnchored p i) (b : Bool)
       → is_apart_behind (lead p) q ≡ b → Matches text (rest (cat p q)) i j → IsAnchored (cat p q) i
   anchored_cat p q i j first true apart m =
       inr (rest_anchored p i j (anchors (lead p) q apart) (subst (λ r. Matches text r i j) (rest_apart p q apart) m)).1
@@ -336,7 +338,7 @@ module _ (text : List ℕ) where
       anchored_with p q i with (first n.0 n.1)
 
   -- of each pattern
-  anchored_by_parts : (p : Pattern) (i j : ℕ) → Matches text (rest p) i j → IsAnchored p i
+  anchored_by_parts : (p : MarkedPattern) (i j : ℕ) → Matches text (rest p) i j → IsAnchored p i
   anchored_by_parts empty i j m = inl refl
   anchored_by_parts (class b n rs) i j m = inl refl
   anchored_by_parts (look l) i j m = inl refl
@@ -348,7 +350,7 @@ module _ (text : List ℕ) where
   anchored_by_parts (lookahead n p) i j m = inl refl
 
   -- so from where the rest matches, the parts of lookaheads hold exactly where they are found, or are not
-  fronts_found : (p : Pattern) (i j : ℕ) → i ≤ length text → Matches text (rest p) i j → Hold (fronts p) i ↔ AreFound (fronts p) text
+  fronts_found : (p : MarkedPattern) (i j : ℕ) → i ≤ length text → Matches text (rest p) i j → Hold (fronts p) i ↔ AreFound (fronts p) text
   fronts_found p i j h m = by_anchor (anchored_by_parts p i j m)
     where
       by_anchor : (fronts p ≡ []) ⊎ (is_edge (before text i) ≡ true) → Hold (fronts p) i ↔ AreFound (fronts p) text
@@ -357,7 +359,7 @@ module _ (text : List ℕ) where
           subst (λ (k : ℕ). Hold (fronts p) k ↔ AreFound (fronts p) text) (sym (first_place i h edge)) (all_found (fronts p) (fronts_begin p))
 
   -- a pattern is found exactly where all its parts are, or are not, as each is to be
-  pub found_parts : (p : Pattern) → Found p text ↔ AreFound (parts p) text
+  pub found_parts : (p : MarkedPattern) → Found p text ↔ AreFound (parts p) text
   found_parts p = (
     λ f. let m = (by_parts p f.0 f.1).0 f.3 in
         ((f.0, f.1, f.2, m.0), (fronts_found p f.0 f.1 f.2 m.0).0 m.1),

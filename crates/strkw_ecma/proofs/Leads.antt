@@ -1,7 +1,7 @@
 -- What a program without branches reads, instruction by instruction: exactly what its pattern matches.
 use Rattle.std.proofs.Common.{◌≡◌, ◌↔◌, ℕ, Bool, true, false, ◌&&◌, List, [], ◌∷◌, ◌++◌, refl, sym, subst, ◌∙◌, true≢false}
-use Rattle.strkw_regex_core.specs.Tree.{Pattern, empty, class, look, cat, alt, star, plus, lookbehind, lookahead}
-use Rattle.strkw_regex_core.specs.Meaning.{Matches}
+use Rattle.strkw_regex_core.specs.machine.MarkedPattern.{MarkedPattern, empty, class, look, cat, alt, star, plus, lookbehind, lookahead}
+use Rattle.strkw_regex_core.specs.machine.MarkedMeaning.{Matches}
 use Rattle.strkw_regex_core.specs.Program.{Instruction, read, assert, peek, fork, other, join, star_begin, star_end, plus_begin, plus_end, look_begin}
 use Rattle.strkw_regex_core.specs.Program.{look_end, program, alternatives}
 use Rattle.strkw_charset.specs.declared.tree.CharSet.{CharSet}
@@ -66,19 +66,19 @@ module _ (text : List ℕ) where
   leads_alone x i j = (λ g. (j, g, refl), λ w. subst (Goes x i) w.2 w.1)
 
   -- these instructions, where they have no branch, read what the pattern matches
-  abbrev IsReadBy : Pattern → List Instruction → Type 0
+  abbrev IsReadBy : MarkedPattern → List Instruction → Type 0
   IsReadBy p is = are_straight is ≡ true → (i j : ℕ) → Matches text p i j ↔ Leads is i j
 
   -- what has a branch in front
-  branched : (p : Pattern) (x : Instruction) (is : List Instruction) → is_straight x ≡ false → IsReadBy p (x ∷ is)
+  branched : (p : MarkedPattern) (x : Instruction) (is : List Instruction) → is_straight x ≡ false → IsReadBy p (x ∷ is)
   branched p x is branches straight = absurd (true≢false (sym (and_left (is_straight x) _ straight) ∙ branches))
 
   -- of a class that is read in some way
-  read_class : (P : Pattern → Pattern) (again optional : Bool)
+  read_class : (P : MarkedPattern → MarkedPattern) (again optional : Bool)
       → ((m n : Bool) (rs : List CharSet) (i j : ℕ) → Matches text (P (class m n rs)) i j ↔ Goes (read again optional n rs) i j)
-      → (p : Pattern) (m n : Bool) (rs : List CharSet) → p ≡ class m n rs → IsReadBy (P p) (read again optional n rs ∷ [])
+      → (p : MarkedPattern) (m n : Bool) (rs : List CharSet) → p ≡ class m n rs → IsReadBy (P p) (read again optional n rs ∷ [])
   read_class P again optional same p m n rs e straight i j =
-      subst (λ (q : Pattern). Matches text (P q) i j ↔ Leads (read again optional n rs ∷ []) i j) (sym e) (
+      subst (λ (q : MarkedPattern). Matches text (P q) i j ↔ Leads (read again optional n rs ∷ []) i j) (sym e) (
         λ w. (leads_alone (read again optional n rs) i j).0 ((same m n rs i j).0 w),
         λ w. (same m n rs i j).1 ((leads_alone (read again optional n rs) i j).1 w),
       )
@@ -91,7 +91,7 @@ straight_parts (x ∷ xs) ys h =
     (and_true _ _ (and_left (is_straight x) _ h) both.0, both.1)
 
 -- a program without branches reads what its pattern matches
-pub read_by_program : (text : List ℕ) (p : Pattern) → IsReadBy text p (program p)
+pub read_by_program : (text : List ℕ) (p : MarkedPattern) → IsReadBy text p (program p)
 read_by_program text empty straight i j = (λ w. w, λ w. w)
 read_by_program text (class m n rs) straight i j = leads_alone text (read false false n rs) i j
 read_by_program text (look l) straight i j = leads_alone text (assert l) i j
@@ -105,7 +105,7 @@ read_by_program text (cat p q) straight i j =
 read_by_program text (alt p q) straight i j =
     by_option (IsReadBy text (alt p q)) p q (λ n rs. read false true n rs ∷ [])
     (fork ∷ (alternatives p ++ (other ∷ (program q ++ (join ∷ [])))))
-    (λ m n rs e f. subst (λ (o : Pattern). IsReadBy text (alt o q) (read false true n rs ∷ [])) (sym e)
+    (λ m n rs e f. subst (λ (o : MarkedPattern). IsReadBy text (alt o q) (read false true n rs ∷ [])) (sym e)
     (read_class text (alt empty) false true (λ m n rs i j. (λ w. w, λ w. w)) q m n rs f))
     (branched text (alt p q) fork _ refl) straight i j
 read_by_program text (star p) straight i j =

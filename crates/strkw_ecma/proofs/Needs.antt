@@ -10,13 +10,13 @@ use Rattle.std.proofs.lemmas.Option.{cond_some, none-some, same_Some}
 use Rattle.memchr.specs.Find.{IsFirstByte, is_byte}
 use Rattle.strkw_text.specs.Delimiters.{Without}
 use Rattle.strkw_text.proofs.Delimiters.{Without-append}
-use Rattle.strkw_regex_core.specs.Tree.{Pattern, empty, class, look, cat, alt, star, plus, lookbehind, lookahead}
+use Rattle.strkw_regex_core.specs.machine.MarkedPattern.{MarkedPattern, empty, class, look, cat, alt, star, plus, lookbehind, lookahead}
 use Rattle.strkw_charset.specs.Membership.{in_sets, is_member}
 use Rattle.strkw_regex_core.specs.OneCharLookahead.{are_told}
-use Rattle.strkw_regex_core.specs.Meaning.{Matches}
-use Rattle.strkw_regex_core.specs.Mirror.{along}
-use Rattle.strkw_regex_core.specs.Times.{Times, any_times, some_times, once_at_most, exact_times, least_times, range_times, repetition}
-use Rattle.strkw_regex_core.specs.Times.{quantified_pattern}
+use Rattle.strkw_regex_core.specs.machine.MarkedMeaning.{Matches}
+use Rattle.strkw_regex_core.specs.machine.Mirror.{along}
+use Rattle.strkw_regex_core.specs.machine.Times.{Times, any_times, some_times, once_at_most, exact_times, least_times, range_times, repetition}
+use Rattle.strkw_regex_core.specs.machine.Times.{quantified_pattern}
 use Rattle.strkw_regex_core.specs.machine.Positions.{is_clean}
 use Rattle.strkw_ecma.specs.machine.RequiredByte.{only_character, later, common, is_sure, needed_char}
 use Rattle.strkw_regex_search.specs.machine.Search.{search_from}
@@ -63,7 +63,7 @@ common_is (Some d) (Some f) c e =
     (ap Some is.1, ap Some (sym both ∙ is.1))
 
 -- what is needed is a character of ASCII
-pub needed_ascii : (p : Pattern) (c : ℕ) → needed_char p ≡ Some c → c < 128
+pub needed_ascii : (p : MarkedPattern) (c : ℕ) → needed_char p ≡ Some c → c < 128
 needed_ascii empty c e = absurd (none-some c e)
 needed_ascii (class m n rs) c e = (class_right n rs c e).0
 needed_ascii (look l) c e = absurd (none-some c e)
@@ -80,7 +80,7 @@ module _ (text : List ℕ) (c : ℕ) where
   StandsIn i j = (k : ℕ) × (i ≤ k) × (k < j) × (slice_get text k ≡ Some c)
 
   -- so it does where a match reads that needs it
-  pub needed_read : (p : Pattern) (i j : ℕ) → needed_char p ≡ Some c → Matches text p i j → StandsIn i j
+  pub needed_read : (p : MarkedPattern) (i j : ℕ) → needed_char p ≡ Some c → Matches text p i j → StandsIn i j
   needed_read empty i j e m = absurd (none-some c e)
   needed_read (class m n rs) i j e (d, there, has, next) =
       (i, omega arith, omega (arith, next), there ∙ ap Some ((class_right n rs c e).1 d has))
@@ -117,7 +117,7 @@ without_along c low true text w = without_turned c low text w
 
 -- a pattern without marks, whose lookaheads are told
 -- is not found from either end of a text without the character that it needs
-pub ruled_out : (p : Pattern) (c : ℕ) (text : List ℕ) (b : Bool) → is_clean p ≡ true → are_told p ≡ true → needed_char p ≡ Some c → Without c text
+pub ruled_out : (p : MarkedPattern) (c : ℕ) (text : List ℕ) (b : Bool) → is_clean p ≡ true → are_told p ≡ true → needed_char p ≡ Some c → Without c text
     → search_from p None (along b text) ≡ false
 ruled_out p c text b clean told e w = false_from_ne_true _ (λ found.
     let at = (search_is_exact p (along b text) clean told).0 found in
@@ -139,12 +139,12 @@ later_same None = refl
 later_same (Some c) = refl
 
 -- copies need what one needs
-copies_need : (n : ℕ) (p : Pattern) → needed_char (repetition (suc n) p) ≡ needed_char p
+copies_need : (n : ℕ) (p : MarkedPattern) → needed_char (repetition (suc n) p) ≡ needed_char p
 copies_need zero p = refl
 copies_need (suc n) p = ap (later (needed_char p)) (copies_need n p) ∙ later_same (needed_char p)
 
 -- those that may be missing need nothing
-options_need : (n : ℕ) (p : Pattern) → needed_char (repetition n (alt empty p)) ≡ None
+options_need : (n : ℕ) (p : MarkedPattern) → needed_char (repetition n (alt empty p)) ≡ None
 options_need zero p = refl
 options_need (suc n) p = ap (later None) (options_need n p)
 
@@ -153,7 +153,7 @@ some_copy : (n : ℕ) → nat_lt 0 (suc n) ≡ true
 some_copy n = grind (arith, nat_tests)
 
 -- so what is repeated needs what it repeats, where it takes a copy at least
-pub times_need : (t : Times) (p : Pattern) → (if is_sure t then needed_char p else None) ≡ needed_char (quantified_pattern t p)
+pub times_need : (t : Times) (p : MarkedPattern) → (if is_sure t then needed_char p else None) ≡ needed_char (quantified_pattern t p)
 times_need any_times p = refl
 times_need some_times p = refl
 times_need once_at_most p = refl

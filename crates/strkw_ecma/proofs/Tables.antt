@@ -1,7 +1,7 @@
 -- What a right table comes to is what the search of the pattern does.
 use Rattle.std.proofs.Common.{◌≡◌, ℕ, ◌+◌, ◌*◌, ◌<◌, ◌==◌, Bool, true, false, List, Vec, Global, length, get_or, Option, Some, None, refl, sym, ap}
 use Rattle.std.proofs.Common.{◌∙◌, arith}
-use Rattle.strkw_regex_core.specs.Tree.{Pattern}
+use Rattle.strkw_regex_core.specs.machine.MarkedPattern.{MarkedPattern}
 use Rattle.strkw_regex_core.specs.Meaning.{is_word, is_edge}
 use Rattle.strkw_regex_core.specs.machine.Positions.{leaves, step, mark_classes, is_clean}
 use Rattle.strkw_charset.specs.machine.CharClasses.{answers, column_of}
@@ -16,18 +16,18 @@ use Rattle.strkw_regex_search.proofs.Marked.{unmarked}
 use Rattle.strkw_ecma.proofs.DfaRun.{walks}
 
 -- two places with no character are alike for each pattern
-same_word_none : (r : Pattern) → SameWord r None None
+same_word_none : (r : MarkedPattern) → SameWord r None None
 unfolding SameWord
 same_word_none r h = refl
 
-module _ (classes : List (Vec CharSet Global)) (keys samples entries : List ℕ) (states : List State) (p : Pattern) (clean : is_clean p ≡ true)
+module _ (classes : List (Vec CharSet Global)) (keys samples entries : List ℕ) (states : List State) (p : MarkedPattern) (clean : is_clean p ≡ true)
     (table : IsTable classes keys samples entries states p) where
   -- the column of the end of the text
   abbrev end_column : ℕ
   end_column = length samples
 
   -- the row stands for the marks of p behind b
-  pub record At (row : ℕ) (q : Pattern) (b : Option ℕ) : Type 0 where
+  pub record At (row : ℕ) (q : MarkedPattern) (b : Option ℕ) : Type 0 where
     pub state : State
     pub of_row : IsRowOf end_column states row state
     pub marks : marks_in p state ≡ q
@@ -35,18 +35,18 @@ module _ (classes : List (Vec CharSet Global)) (keys samples entries : List ℕ)
     pub edge : is_edge state.last ≡ is_edge b
 
   -- a row that stands for some marks is right for its state
-  row_of : (row : ℕ) (q : Pattern) (b : Option ℕ) → (at : At row q b) → IsRow p samples entries states at.state row
+  row_of : (row : ℕ) (q : MarkedPattern) (b : Option ℕ) → (at : At row q b) → IsRow p samples entries states at.state row
   row_of row q b at = table.rows row at.state at.of_row
 
   -- the last entry of such a row says that the pattern is found exactly where it is left at the end
-  ends : (row : ℕ) (q : Pattern) (b : Option ℕ) → At row q b → (entry_at entries row end_column == found_row) ≡ leaves b None q true
+  ends : (row : ℕ) (q : MarkedPattern) (b : Option ℕ) → At row q b → (entry_at entries row end_column == found_row) ≡ leaves b None q true
   ends row q b at =
       (row_of row q b at).ends
       ∙ same_leaves classes at.state.last b None None at.edge refl (λ n rs told. refl) (marks_in p at.state) true (marked_word _ p _ _ at.word)
       (same_word_none _) (marked_tells classes at.state.marks.items p table.told)
-      ∙ ap (λ (r : Pattern). leaves b None r true) at.marks
+      ∙ ap (λ (r : MarkedPattern). leaves b None r true) at.marks
 
-  module _ (row : ℕ) (q : Pattern) (b : Option ℕ) (c k : ℕ) (has : column_of classes keys c ≡ Some k) (at : At row q b) where
+  module _ (row : ℕ) (q : MarkedPattern) (b : Option ℕ) (c k : ℕ) (has : column_of classes keys c ≡ Some k) (at : At row q b) where
     -- the character that stands for the column
     abbrev sample : ℕ
     sample = get_or samples k 0
@@ -75,13 +75,13 @@ module _ (classes : List (Vec CharSet Global)) (keys samples entries : List ℕ)
     here : leaves at.state.last (Some sample) (marks_in p at.state) true ≡ leaves b (Some c) q true
     here =
         left classes sample c alike at.state.last b at.edge (marks_in p at.state) true word tells
-        ∙ ap (λ (r : Pattern). leaves b (Some c) r true) at.marks
+        ∙ ap (λ (r : MarkedPattern). leaves b (Some c) r true) at.marks
 
     -- and a step over either leads to the same marks
     stepped : step at.state.last (Some sample) (marks_in p at.state) true ≡ step b (Some c) q true
     stepped =
         same_step classes sample c alike at.state.last b at.edge (marks_in p at.state) true word tells
-        ∙ ap (λ (r : Pattern). step b (Some c) r true) at.marks
+        ∙ ap (λ (r : MarkedPattern). step b (Some c) r true) at.marks
 
     -- the entry says that the pattern is found exactly where it is left here
     pub finds : (entry_at entries row k == found_row) ≡ leaves b (Some c) q true

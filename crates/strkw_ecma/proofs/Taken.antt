@@ -4,12 +4,12 @@ use Rattle.std.proofs.Common.{is_some, IfSome, refl, sym, ap, subst, ◌∙◌, 
 use Rattle.std.proofs.lemmas.Bool.{lt-leb}
 use Rattle.std.proofs.Math.Path.{fun_ext}
 use Rattle.strkw_pattern.specs.Matcher.{outcome_of}
-use Rattle.strkw_regex_core.specs.Tree.{Pattern}
+use Rattle.strkw_regex_core.specs.machine.MarkedPattern.{MarkedPattern}
 use Rattle.strkw_charset.specs.Membership.{differ}
-use Rattle.strkw_regex_core.specs.Meaning.{Found}
+use Rattle.strkw_regex_core.specs.machine.MarkedMeaning.{Found}
 use Rattle.strkw_regex_core.specs.OneCharLookahead.{are_told}
 use Rattle.strkw_regex_core.specs.Size.{max_steps}
-use Rattle.strkw_regex_core.specs.Mirror.{mirror_if, along, is_backward, target, sought_in}
+use Rattle.strkw_regex_core.specs.machine.Mirror.{mirror_if, along, is_backward, target, sought_in}
 use Rattle.strkw_regex_core.specs.LeadingLookahead.{Part, parts, steps_of_parts}
 use Rattle.strkw_regex_core.specs.machine.Positions.{is_unmarked}
 use Rattle.strkw_regex_core.specs.machine.Sizes.{cap_steps}
@@ -40,7 +40,7 @@ clean_same (x ∷ xs) [] u = absurd u
 clean_same (x ∷ xs) (a ∷ us) u = both_same _ _ _ _ u.0.alike.clean (clean_same xs us u.1)
 
 -- one is looked for from the end only where its lookaheads are told from there
-one_faced : (p q : Pattern) (b : Bool) → b ≡ is_backward p → are_told q ≡ are_told (target p) → (not b || are_told q) ≡ true
+one_faced : (p q : MarkedPattern) (b : Bool) → b ≡ is_backward p → are_told q ≡ are_told (target p) → (not b || are_told q) ≡ true
 one_faced p q b way told = by_test (is_backward p) refl
   where
     -- by whether it is
@@ -66,7 +66,7 @@ steps_same (x ∷ xs) [] u = absurd u
 steps_same (x ∷ xs) (a ∷ us) u = omega (arith, u.0.steps, steps_same xs us u.1)
 
 -- what is alike is found in the same texts
-found_alike : (p q : Pattern) (text : List ℕ) → EquivalentPatterns p q → Found p text ↔ Found q text
+found_alike : (p q : MarkedPattern) (text : List ℕ) → EquivalentPatterns p q → Found p text ↔ Found q text
 found_alike p q text u = (
   λ f. (f.0, f.1, f.2, (u.meaning text f.0 f.1).0 f.3),
   λ f. (f.0, f.1, f.2, (u.meaning text f.0 f.1).1 f.3),
@@ -100,14 +100,14 @@ found_same (x ∷ xs) (a ∷ us) text u c =
     (found_same xs us text u.1 (and_right (is_unmarked (target a.pattern)) _ c))
 
 -- a pattern that is small is taken
-taken_so : (p : Pattern) → steps_of_parts (parts p) ≤ max_steps → keep_small (Some p) ≡ Some p
+taken_so : (p : MarkedPattern) → steps_of_parts (parts p) ≤ max_steps → keep_small (Some p) ≡ Some p
 taken_so p keep_small = ap (λ (b : Bool). when b (Some p)) (le-leb (steps_of_parts (parts p)) max_steps keep_small)
 
 -- and one that is not small is not
-not_small : (p : Pattern) → nat_le (steps_of_parts (parts p)) max_steps ≡ false → keep_small (Some p) ≡ None
+not_small : (p : MarkedPattern) → nat_le (steps_of_parts (parts p)) max_steps ≡ false → keep_small (Some p) ≡ None
 not_small p large = ap (λ (b : Bool). when b (Some p)) large
 
-module _ (v : Vec CodePass Global) (p : Pattern) (are : ArePasses (passes_of v.items) (parts p)) where
+module _ (v : Vec CodePass Global) (p : MarkedPattern) (are : ArePasses (passes_of v.items) (parts p)) where
   -- what is looked for of a pattern that is taken
   pub comes_to : (s : ℕ) → s ≡ cap_steps (steps_of_passes (passes_of v.items)) → s ≤ max_steps
       → ComesTo (Some v) (keep_small (Some p))
@@ -124,28 +124,28 @@ module _ (v : Vec CodePass Global) (p : Pattern) (are : ArePasses (passes_of v.i
 -- what is looked for of a pattern that is read
 module _ (v : Vec CodePass Global) where
   -- has no marks, where that has none
-  pub read_clean : (o : Option Pattern) → IfSome o (λ p. is_unmarked p ≡ true) → ComesTo (Some v) o → are_passes_clean (passes_of v.items) ≡ true
+  pub read_clean : (o : Option MarkedPattern) → IfSome o (λ p. is_unmarked p ≡ true) → ComesTo (Some v) o → are_passes_clean (passes_of v.items) ≡ true
   read_clean None c u = absurd u
   read_clean (Some p) c u = clean_same _ _ u.passes ∙ parts_clean p c
 
   -- is looked for from the end only where it is told from there
-  pub read_faced : (o : Option Pattern) → ComesTo (Some v) o → are_passes_faced (passes_of v.items) ≡ true
+  pub read_faced : (o : Option MarkedPattern) → ComesTo (Some v) o → are_passes_faced (passes_of v.items) ≡ true
   read_faced None u = absurd u
   read_faced (Some p) u = all_faced _ _ u.passes
 
   -- is small
-  pub read_small : (o : Option Pattern) → ComesTo (Some v) o → steps_of_passes (passes_of v.items) ≤ max_steps
+  pub read_small : (o : Option MarkedPattern) → ComesTo (Some v) o → steps_of_passes (passes_of v.items) ≤ max_steps
   read_small None u = absurd u
   read_small (Some p) u = omega (arith, steps_same _ _ u.passes, u.small)
 
   -- and an engine of it comes to what is defined for it
   pub read_outcome : (e : EcmaMatcher) → ((text : List ℕ) → are_found_by e.parts.items text ≡ are_passes_found (passes_of v.items) text)
-      → (o : Option Pattern) → IfSome o (λ p. is_unmarked p ≡ true) → ComesTo (Some v) o → engine_outcome e ≡ outcome_of_read o
+      → (o : Option MarkedPattern) → IfSome o (λ p. is_unmarked p ≡ true) → ComesTo (Some v) o → engine_outcome e ≡ outcome_of_read o
   read_outcome e is None c u = absurd u
   read_outcome e is (Some p) c u = fun_ext (λ text. ap outcome_of (is text ∙ found_same _ _ text u.passes (parts_clean p c)))
 
 -- something is looked for exactly where a pattern is read
-pub comes_some : (v : Option (Vec CodePass Global)) (o : Option Pattern) → ComesTo v o → is_some v ≡ is_some o
+pub comes_some : (v : Option (Vec CodePass Global)) (o : Option MarkedPattern) → ComesTo v o → is_some v ≡ is_some o
 comes_some None None u = refl
 comes_some None (Some p) u = absurd u
 comes_some (Some v) None u = absurd u

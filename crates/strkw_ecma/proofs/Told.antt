@@ -9,7 +9,7 @@ use Rattle.strkw_regex_search.specs.declared.code.Turn.{Turn as CodeTurn}
 use Rattle.strkw_regex_search.specs.declared.code.Turn.TheVariants as turn
 use Rattle.strkw_regex_search.specs.declared.code.Instruction.{Instruction as CodeInstruction}
 use Rattle.strkw_regex_search.specs.declared.code.Instruction.TheVariants.{Read, Peek, Turn}
-use Rattle.strkw_regex_core.specs.Tree.{Pattern, empty, class, look, cat, alt, star, plus, lookbehind, lookahead}
+use Rattle.strkw_regex_core.specs.machine.MarkedPattern.{MarkedPattern, empty, class, look, cat, alt, star, plus, lookbehind, lookahead}
 use Rattle.strkw_charset.specs.machine.CharClasses.{TellsSets}
 use Rattle.strkw_regex_core.specs.machine.Boundaries.{sees_boundary, has_boundary}
 use Rattle.strkw_ecma.specs.machine.Told.{TellsGlance, Tells}
@@ -46,17 +46,17 @@ all_parts P (x ∷ xs) ys h = ((h.0, (all_parts P xs ys h.1).0), (all_parts P xs
 
 module _ (known : List (Vec CharSet Global)) where
   -- what is told of the instructions tells the pattern, if word characters are told where it asks about them
-  abbrev AreTold : Pattern → List Instruction → Type 0
+  abbrev AreTold : MarkedPattern → List Instruction → Type 0
   AreTold p is = AllTold known is → (has_boundary p ≡ true → TellsSets known word_characters) → Tells known p
 
   -- two patterns so told by their instructions are told, if word characters are where one asks
-  told_parts : (p q : Pattern) (xs ys : List Instruction) → AreTold p xs → AreTold q ys → AllTold known xs → AllTold known ys
+  told_parts : (p q : MarkedPattern) (xs ys : List Instruction) → AreTold p xs → AreTold q ys → AllTold known xs → AllTold known ys
       → ((has_boundary p || has_boundary q) ≡ true → TellsSets known word_characters) → Tells known p × Tells known q
   told_parts p q xs ys e f x y word =
       (e x (λ h. word (or_left _ _ h)), f y (λ h. word (or_right (has_boundary p) _ h)))
 
   -- a glance is told by its instructions, if word characters are told where it asks about them
-  glance_told : (p : Pattern) → AllTold known (glance p) → (sees_boundary p ≡ true → TellsSets known word_characters) → TellsGlance known p
+  glance_told : (p : MarkedPattern) → AllTold known (glance p) → (sees_boundary p ≡ true → TellsSets known word_characters) → TellsGlance known p
   glance_told empty told word = tt
   glance_told (class m n rs) told word = told.0
   glance_told (look l) told word = word
@@ -94,7 +94,7 @@ module _ (known : List (Vec CharSet Global)) where
   }
 
   -- a pattern is told where the instructions of its program are, and word characters where it asks
-  pub told : (p : Pattern) → AllTold known (program p) → (has_boundary p ≡ true → TellsSets known word_characters) → Tells known p
+  pub told : (p : MarkedPattern) → AllTold known (program p) → (has_boundary p ≡ true → TellsSets known word_characters) → Tells known p
   told p = (both_by_parts AreTold all_told_by_parts p).0
 
   -- where the sets of each class are told, an instruction that reads one of the classes is
@@ -136,6 +136,6 @@ module _ (known : List (Vec CharSet Global)) where
   classes_told cs is h all = instructions_told cs is h (recursion_from_All _ cs all)
 
   -- and the pattern that they are written for
-  pub pattern_told : (p : Pattern) (cs : List Class) (is : List CodeInstruction) → instructions cs is ≡ program p → are_within (length cs) is ≡ true
+  pub pattern_told : (p : MarkedPattern) (cs : List Class) (is : List CodeInstruction) → instructions cs is ≡ program p → are_within (length cs) is ≡ true
       → All (λ c. TellsSets known c.sets.items) cs → (has_boundary p ≡ true → TellsSets known word_characters) → Tells known p
   pattern_told p cs is same h all = told p (subst (AllTold known) same (classes_told cs is h all))

@@ -1,4 +1,5 @@
--- The grammar and the meaning of a pattern's text, with no reader and no marks in them.
+-- The grammar and the meaning of a pattern's text. How large it may be is counted on what is
+-- searched of it.
 use Rattle.std.specs.Prelude.{◌≡◌, ◌↔◌, ◌⊎◌, ℕ, ◌≤◌, true, false, not, IsTrue, List, [], length}
 use Rattle.strkw_pattern.specs.declared.engine.Outcome.TheVariants.{Match, NoMatch}
 use Rattle.strkw_regex_grammar.specs.Regex.{Disjunction, parts, IsMadeOf}
@@ -12,6 +13,7 @@ use Rattle.strkw_regex_core.specs.Size.{max_steps}
 use Rattle.strkw_regex_core.specs.LeadingLookahead.{parts as parts_of_pattern, steps_of_parts}
 use Rattle.strkw_regex_core.specs.Meaning.{Found}
 use Rattle.strkw_regex_reader.specs.Patterns.{pattern}
+use Rattle.strkw_regex_core.specs.machine.Expansion.{expand}
 use Rattle.strkw_regex_reader.specs.machine.Taken.{takes_pattern}
 use Rattle.strkw_ecma.specs.machine.Outcomes.{pattern_outcome}
 
@@ -21,10 +23,10 @@ AreComplements rs ss = (c : ℕ) → c ≤ max_code_point → in_sets ss c ≡ n
 
 -- `[^]` and `\w`
 abbrev pub any_character : Pattern
-any_character = class false true []
+any_character = class true []
 
 abbrev pub word_character : Pattern
-word_character = class false false word_characters
+word_character = class false word_characters
 
 -- `(?<=\w)(?!\w)|(?<!\w)(?=\w)`: of the characters beside a place one alone is a word's
 abbrev pub word_edge : Pattern
@@ -43,7 +45,7 @@ pub record IsPattern (source : List ℕ) (d : Disjunction) : Type 0 where
   pub made : IsMadeOf source (parts d)
   pub taken : takes 0 d ≡ true
   pub short : length source ≤ max_length
-  pub small : steps_of_parts (parts_of_pattern (pattern d)) ≤ max_steps
+  pub small : steps_of_parts (parts_of_pattern (expand (pattern d))) ≤ max_steps
 
 -- what is taken is a pattern, each pattern is taken, it has one tree, and it comes to a match
 -- exactly where that is found, and to none elsewhere

@@ -2,7 +2,7 @@
 
 ghost use Rattle.std.specs.Prelude.{◌≡◌, ◌+◌, ◌<◌, ◌==◌, true, false, Some, length, IsTrue, IfSome, MatchOption};
 ghost use Rattle.std.specs.Str.{chars};
-ghost use Rattle.strkw_regex_core.specs.Mirror.{along};
+ghost use Rattle.strkw_regex_core.specs.machine.Mirror.{along};
 ghost use Rattle.strkw_charset.specs.machine.CharClasses.{column_of};
 ghost use Rattle.strkw_ecma.specs.machine.Dfa.{walk, found_row, entry_at, row_after, AreInside};
 

@@ -171,7 +171,8 @@ impl RegexEngine for EcmaMatcher {
 /// for each 32 ranges, of which a property counts as eight. A look-around is counted one step more in a part where
 /// look-aheads and look-behinds both look far. In a counted term, of what a look-ahead looks for, the last term of a
 /// sequence is counted alone, three steps around each two alternatives, and nothing of a look-behind or of a term with
-/// another quantifier than `?`. In the whole all of it is, for each copy. Steps are counted before there is a program.
+/// another quantifier than `?`. In the whole all of it is, for each copy. A quantifier counts by its bounds alone,
+/// `{1,}` as `+`. Steps are counted before there is a program.
 ///
 /// A match is a search for the pattern in the text (section 22.2.7.2), with no flag but `u`: characters are Unicode
 /// scalar values; `^` and `$` stand for the two ends of the text, `.` for each character but U+000A, U+000D, U+2028

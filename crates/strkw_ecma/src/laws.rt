@@ -1,13 +1,17 @@
 //! Laws of the definitions, as functions with empty bodies.
 
-ghost use Rattle.std.specs.Prelude.{ℕ, ◌*◌, ◌≤◌, ◌↔◌, true, List, length, reverse};
+ghost use Rattle.std.specs.Prelude.{◌≡◌, ℕ, ◌*◌, ◌≤◌, ◌↔◌, true, List, length, reverse};
 ghost use Rattle.strkw_ecma.specs.Laws.{AreComplements, any_character, IsExact, IsPattern};
 ghost use Rattle.strkw_ecma.specs.Laws.{word_edge, no_word_edge};
 ghost use Rattle.strkw_regex_core.specs.Tree.{Pattern, start, end, boundary, no_boundary, look, lookbehind, lookahead};
 ghost use Rattle.strkw_regex_core.specs.LeadingLookahead.{AreFound, parts};
+ghost use Rattle.strkw_regex_core.specs.Matchers.{AreOrdered, backward, Continuation, forward, matcher};
 ghost use Rattle.strkw_regex_core.specs.Meaning.{Found, Matches};
 ghost use Rattle.strkw_regex_core.specs.Mirror.{mirror};
 ghost use Rattle.strkw_regex_core.specs.Size.{max_steps};
+ghost use Rattle.strkw_regex_core.specs.machine.Expansion.{expand};
+ghost use Rattle.strkw_regex_core.specs.machine.MarkedMeaning.{Found as FoundMarked, Matches as MatchesMarked};
+ghost use Rattle.strkw_regex_core.specs.machine.MarkedPattern.{MarkedPattern};
 ghost use Rattle.strkw_regex_search.specs.machine.Counted.{AreSearchedWithin};
 ghost use Rattle.strkw_regex_reader.specs.Patterns.{pattern};
 ghost use Rattle.strkw_regex_grammar.specs.Regex.{Disjunction, IsRegex};
@@ -33,7 +37,7 @@ pub fn negative_sets_are_complements()
 /// property counts as eight.
 pub fn searches_are_bounded()
     ensures { (source : List ℕ) (d : Disjunction) → IsPattern source d
-        → (text : List ℕ) → AreSearchedWithin (2 * max_steps) (parts (pattern d)) text }
+        → (text : List ℕ) → AreSearchedWithin (2 * max_steps) (parts (expand (pattern d))) text }
 {}
 
 /// `^` holds exactly where `(?<![^])` does: at a place before which no character stands.
@@ -56,10 +60,37 @@ pub fn boundaries_are_lookarounds()
         → Matches text (look no_boundary) i j ↔ Matches text no_word_edge i j }
 {}
 
-/// A pattern is found exactly where all its parts are, or where one is negated, is not: the lookaheads at its front
-/// that look for more than the next character, each from the beginning of the text on, and the rest.
+/// A pattern as it is searched is found exactly where all its parts are, or where one is negated, is not: the
+/// lookaheads at its front that look for more than the next character, each from the beginning of the text on, and the
+/// rest.
 pub fn patterns_have_parts()
-    ensures { (p : Pattern) (text : List ℕ) → Found p text ↔ AreFound (parts p) text }
+    ensures { (p : MarkedPattern) (text : List ℕ) → FoundMarked p text ↔ AreFound (parts p) text }
+{}
+
+/// As it is searched, with what is counted written out in copies, a pattern matches what it means.
+pub fn expansions_match()
+    ensures { (p : Pattern) → AreOrdered p → (text : List ℕ) (i j : ℕ)
+        → Matches text p i j ↔ MatchesMarked text (expand p) i j }
+{}
+
+/// What a pattern matches is what the matchers of ECMA-262 2024, section 22.2.2, answer: from a place the matcher
+/// succeeds forward exactly where the pattern matches from there to a place at which the continuation succeeds, and
+/// backward exactly where it does from such a place to there. So a pattern is found in a text exactly where its matcher
+/// succeeds from some place of the text, with the continuation that always does.
+pub fn matchers_agree()
+    ensures forward { (text : List ℕ) (p : Pattern) (c : Continuation) (i : ℕ) → AreOrdered p
+        → i ≤ length text
+        → (matcher text forward p i c ≡ true)
+        ↔ ((j : ℕ) × Matches text p i j × (c j ≡ true)) }
+    ensures backward { (text : List ℕ) (p : Pattern) (c : Continuation) (j : ℕ) → AreOrdered p
+        → j ≤ length text
+        → (matcher text backward p j c ≡ true)
+        ↔ ((i : ℕ) × Matches text p i j × (c i ≡ true)) }
+    ensures ordered { (source : List ℕ) (d : Disjunction) → IsPattern source d
+        → AreOrdered (pattern d) }
+    ensures found { (source : List ℕ) (d : Disjunction) → IsPattern source d → (text : List ℕ)
+        → Found (pattern d) text ↔ ((i : ℕ) × (i ≤ length text)
+        × (matcher text forward (pattern d) i (λ y. true) ≡ true)) }
 {}
 
 /// A pattern is found in a text exactly where its mirror is found in the text turned round.

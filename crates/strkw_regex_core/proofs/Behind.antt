@@ -2,8 +2,9 @@
 -- lookbehind says there what is so.
 use Rattle.std.proofs.Common.{◌≡◌, ◌⊎◌, ◌↔◌, ℕ, ◌+◌, ◌≤◌, ◌<◌, Bool, true, false, List, slice_get, length, refl, sym, ap, subst, inl, inr, ⊎_elim}
 use Rattle.std.proofs.Common.{true≢false, arith}
-use Rattle.strkw_regex_core.specs.Tree.{Pattern, empty, class, look, cat, alt, star, plus, lookbehind, lookahead}
-use Rattle.strkw_regex_core.specs.Meaning.{before, Matches}
+use Rattle.strkw_regex_core.specs.machine.MarkedPattern.{MarkedPattern, empty, class, look, cat, alt, star, plus, lookbehind, lookahead}
+use Rattle.strkw_regex_core.specs.Meaning.{before}
+use Rattle.strkw_regex_core.specs.machine.MarkedMeaning.{Matches}
 use Rattle.strkw_regex_core.specs.machine.Positions.{sees, Rest, Crosses, Kept, is_clean}
 use Rattle.strkw_regex_core.specs.Program.{is_empty}
 use Rattle.strkw_regex_core.specs.OneCharLookahead.{is_glance, are_told}
@@ -12,7 +13,7 @@ use Rattle.strkw_regex_core.proofs.Steps.{goes_back}
 use Rattle.strkw_charset.proofs.Booleans.{and_left, and_right, or_case, or_left, or_right}
 
 -- the empty pattern is the one that is nothing
-pub nothing_is : (p : Pattern) → is_empty p ≡ true → p ≡ empty
+pub nothing_is : (p : MarkedPattern) → is_empty p ≡ true → p ≡ empty
 nothing_is empty h = refl
 nothing_is (class m n rs) h = absurd (true≢false (sym h))
 nothing_is (look l) h = absurd (true≢false (sym h))
@@ -24,12 +25,12 @@ nothing_is (lookbehind n p) h = absurd (true≢false (sym h))
 nothing_is (lookahead n p) h = absurd (true≢false (sym h))
 
 -- Here `see` says of a lookahead whether what it looks for is there.
-module _ (see : Pattern → Bool) (text : List ℕ) (i : ℕ) where
+module _ (see : MarkedPattern → Bool) (text : List ℕ) (i : ℕ) where
   -- what is not behind a place stands before it, or there
   before_or_there : (k : ℕ) → k ≤ i → (k < i) ⊎ (k ≡ i)
   before_or_there k h = grind arith
 
-  module _ (p : Pattern) (says : Says see text i p) (marks : (j : ℕ) → Rest text p i j ↔ Crosses text p i j) where
+  module _ (p : MarkedPattern) (says : Says see text i p) (marks : (j : ℕ) → Rest text p i j ↔ Crosses text p i j) where
     -- a match that has begun before this place, or begins here, goes through the pattern from here
     goes_from : (k j : ℕ) → i ≤ j → Matches text p k j → (k < i) ⊎ (k ≡ i) → Goes see text i p true j
     goes_from k j h m (inl early) = inl ((marks j).1 (k, early, h, m))
@@ -79,12 +80,12 @@ module _ (see : Pattern → Bool) (text : List ℕ) (i : ℕ) where
     )
 
 -- whether a pattern that the next character tells matches from a place on
-abbrev pub seen_from : List ℕ → ℕ → Pattern → Bool
+abbrev pub seen_from : List ℕ → ℕ → MarkedPattern → Bool
 seen_from text i = sees (before text i) (slice_get text i)
 
 module _ (text : List ℕ) (i : ℕ) where
   -- a glance says whether the pattern matches from here on
-  pub glanced : (p : Pattern) → is_glance p ≡ true → (seen_from text i p ≡ true) ↔ ((k : ℕ) × Matches text p i k)
+  pub glanced : (p : MarkedPattern) → is_glance p ≡ true → (seen_from text i p ≡ true) ↔ ((k : ℕ) × Matches text p i k)
   glanced empty g = (λ h. (i, refl), λ found. refl)
   glanced (class m n rs) g = (
     λ h. let found = reads_some (seen_from text i) text i n rs (slice_get text i) h in (i + 1, (found.0, found.1, found.2, refl)),
@@ -94,7 +95,7 @@ module _ (text : List ℕ) (i : ℕ) where
   glanced (cat p q) g = with_nothing p (nothing_is p (and_left (is_empty p) _ g)) (glanced q (and_right (is_empty p) _ g))
     where
       -- behind nothing, it is that of what follows
-      with_nothing : (p : Pattern) → p ≡ empty → (seen_from text i q ≡ true) ↔ ((k : ℕ) × Matches text q i k)
+      with_nothing : (p : MarkedPattern) → p ≡ empty → (seen_from text i q ≡ true) ↔ ((k : ℕ) × Matches text q i k)
           → (seen_from text i (cat p q) ≡ true) ↔ ((k : ℕ) × Matches text (cat p q) i k)
       with_nothing p e same =
           rw e (
@@ -119,9 +120,9 @@ module _ (text : List ℕ) (i : ℕ) where
   )
 
 -- Here `see` says at each place of a lookahead whether what it looks for is there.
-module _ (see : ℕ → Pattern → Bool) (text : List ℕ) (i : ℕ) (within : i ≤ length text) where
+module _ (see : ℕ → MarkedPattern → Bool) (text : List ℕ) (i : ℕ) (within : i ≤ length text) where
   -- where the marks within lookbehinds are kept, each says what is so
-  pub says_of : (p : Pattern) → Kept see text p i → Says (see i) text i p
+  pub says_of : (p : MarkedPattern) → Kept see text p i → Says (see i) text i p
   says_of empty k = tt
   says_of (class m n rs) k = tt
   says_of (look l) k = tt
@@ -133,7 +134,7 @@ module _ (see : ℕ → Pattern → Bool) (text : List ℕ) (i : ℕ) (within : 
   says_of (lookahead n p) k = k i within
 
   -- and a step keeps them
-  pub kept_next : (p : Pattern) (x : Bool) → Kept see text p i → Kept see text (stepped (see i) text i p x) (i + 1)
+  pub kept_next : (p : MarkedPattern) (x : Bool) → Kept see text p i → Kept see text (stepped (see i) text i p x) (i + 1)
   kept_next empty x k = tt
   kept_next (class m n rs) x k = tt
   kept_next (look l) x k = tt
@@ -145,7 +146,7 @@ module _ (see : ℕ → Pattern → Bool) (text : List ℕ) (i : ℕ) (within : 
   kept_next (lookahead n p) x k = k
 
 -- a pattern without marks has no match under way
-pub none_under_way : (text : List ℕ) (p : Pattern) (k j : ℕ) → is_clean p ≡ true → Rest text p k j → ⊥
+pub none_under_way : (text : List ℕ) (p : MarkedPattern) (k j : ℕ) → is_clean p ≡ true → Rest text p k j → ⊥
 none_under_way text empty k j h r = r
 none_under_way text (class true n rs) k j h r = true≢false (sym h)
 none_under_way text (class false n rs) k j h r = true≢false (sym r.0)
@@ -160,7 +161,7 @@ none_under_way text (lookbehind n p) k j h r = r
 none_under_way text (lookahead n p) k j h r = r
 
 -- so at the first place, before which no way has begun, its marks are kept, where its lookaheads are told
-pub kept_first : (text : List ℕ) (p : Pattern) → is_clean p ≡ true → are_told p ≡ true → Kept (seen_from text) text p 0
+pub kept_first : (text : List ℕ) (p : MarkedPattern) → is_clean p ≡ true → are_told p ≡ true → Kept (seen_from text) text p 0
 kept_first text empty h w = tt
 kept_first text (class m n rs) h w = tt
 kept_first text (look l) h w = tt

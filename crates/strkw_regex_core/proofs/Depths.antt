@@ -1,7 +1,7 @@
 -- How many lookarounds lie in one another.
 use Rattle.std.proofs.Common.{◌≡◌, ℕ, ◌≤◌, max, Bool, true, false, ◌||◌, if◌then◌else◌, refl, ap, ◌∙◌, suc, arith}
-use Rattle.strkw_regex_core.specs.Tree.{Pattern, empty, class, look, cat, alt, star, plus, lookbehind, lookahead}
-use Rattle.strkw_regex_core.specs.Mirror.{mirror}
+use Rattle.strkw_regex_core.specs.machine.MarkedPattern.{MarkedPattern, empty, class, look, cat, alt, star, plus, lookbehind, lookahead}
+use Rattle.strkw_regex_core.specs.machine.Mirror.{mirror}
 use Rattle.strkw_regex_core.specs.Program.{is_empty}
 use Rattle.strkw_regex_core.specs.machine.Sight.{depth}
 
@@ -18,7 +18,7 @@ max_turned : (a b : ℕ) → max a b ≡ max b a
 max_turned a b = omega arith
 
 -- a mirror has as many in one another
-pub mirror_depth : (p : Pattern) → depth (mirror p) ≡ depth p
+pub mirror_depth : (p : MarkedPattern) → depth (mirror p) ≡ depth p
 mirror_depth empty = refl
 mirror_depth (class m n rs) = refl
 mirror_depth (look l) = refl

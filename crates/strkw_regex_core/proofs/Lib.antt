@@ -14,3 +14,7 @@ pub mod Depths
 pub mod LookaheadTruth
 pub mod Widths
 pub mod Backwards
+pub mod Places
+pub mod Matchers
+pub mod PatternMirrors
+pub mod Expansions

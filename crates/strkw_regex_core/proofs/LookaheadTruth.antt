@@ -2,9 +2,10 @@
 use Rattle.std.proofs.Common.{◌≡◌, ◌⊎◌, ◌↔◌, ℕ, zero, suc, ◌+◌, ◌-◌, ◌≤◌, ◌<◌, Bool, true, false, List, length, reverse, slice_get, refl, sym, subst}
 use Rattle.std.proofs.Common.{◌∙◌, ⊎_elim, arith}
 use Rattle.std.proofs.lemmas.List.{length-reverse}
-use Rattle.strkw_regex_core.specs.Tree.{Pattern, empty, class, look, cat, alt, star, plus, lookbehind, lookahead}
-use Rattle.strkw_regex_core.specs.Meaning.{before, Matches, Found}
-use Rattle.strkw_regex_core.specs.Mirror.{mirror}
+use Rattle.strkw_regex_core.specs.machine.MarkedPattern.{MarkedPattern, empty, class, look, cat, alt, star, plus, lookbehind, lookahead}
+use Rattle.strkw_regex_core.specs.Meaning.{before}
+use Rattle.strkw_regex_core.specs.machine.MarkedMeaning.{Matches, Found}
+use Rattle.strkw_regex_core.specs.machine.Mirror.{mirror}
 use Rattle.strkw_regex_core.specs.machine.Positions.{IsToldBy, Kept, is_unmarked}
 use Rattle.strkw_regex_core.specs.machine.Sight.{depth, marked_at, ends_at, ends_by, begins_at}
 use Rattle.strkw_regex_core.proofs.Steps.{same_meaning, forwards}
@@ -16,10 +17,10 @@ use Rattle.strkw_regex_core.proofs.Depths.{less_left, less_right, mirror_depth}
 
 -- Here `see` says at each place of a lookahead whether what it looks for is there, and says what is so of those with
 -- fewer lookarounds in one another than n.
-module _ (see : ℕ → Pattern → Bool) (text : List ℕ) (n : ℕ)
-    (told : (r : Pattern) → is_unmarked r ≡ true → depth r < n → IsToldBy see text r) where
+module _ (see : ℕ → MarkedPattern → Bool) (text : List ℕ) (n : ℕ)
+    (told : (r : MarkedPattern) → is_unmarked r ≡ true → depth r < n → IsToldBy see text r) where
   -- at the first place the marks within lookbehinds are kept
-  kept_start : (p : Pattern) → is_unmarked p ≡ true → depth p ≤ n → Kept see text p 0
+  kept_start : (p : MarkedPattern) → is_unmarked p ≡ true → depth p ≤ n → Kept see text p 0
   kept_start empty h w = tt
   kept_start (class m b rs) h w = tt
   kept_start (look l) h w = tt
@@ -35,7 +36,7 @@ module _ (see : ℕ → Pattern → Bool) (text : List ℕ) (n : ℕ)
   )
   kept_start (lookahead b p) h w = told p h (omega (arith, w))
 
-  module _ (p : Pattern) (bare : is_unmarked p ≡ true) (few : depth p ≤ n) where
+  module _ (p : MarkedPattern) (bare : is_unmarked p ≡ true) (few : depth p ≤ n) where
     -- the marks of a pattern that is entered at each place are those of all ways that have begun before
     kept_at : (i : ℕ) → i ≤ length text → Kept see text (lookbehind false (marked_at see text p i)) i
     kept_at zero h = (
@@ -90,7 +91,7 @@ module _ (see : ℕ → Pattern → Bool) (text : List ℕ) (n : ℕ)
         found_of j k h m = (k, j, omega (arith, h, forwards text p k j m), m)
 
 -- what is said of a lookahead, from the end of the text on, is so
-pub begins_right : (n : ℕ) (text : List ℕ) (p : Pattern) → is_unmarked p ≡ true → depth p < n → IsToldBy (begins_at n text) text p
+pub begins_right : (n : ℕ) (text : List ℕ) (p : MarkedPattern) → is_unmarked p ≡ true → depth p < n → IsToldBy (begins_at n text) text p
 begins_right zero text p h w = absurd (omega (arith, w))
 begins_right (suc n) text p h w = λ i within.
     let back = reverse text in

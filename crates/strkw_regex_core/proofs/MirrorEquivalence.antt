@@ -1,14 +1,14 @@
 -- What is alike, and that a counted term may keep the order of its copies in a mirror.
 use Rattle.std.proofs.Common.{◌≡◌, ℕ, zero, suc, ◌-◌, Bool, true, false, ◌&&◌, ◌||◌, List, if◌then◌else◌, refl, sym, ap, subst, ◌∙◌, inl, inr, subst₂}
 use Rattle.std.proofs.Common.{Result, Ok, Err, IfOk, Box, Global, true≢false, arith}
-use Rattle.strkw_regex_core.specs.Tree.{Pattern, empty, class, look, cat, alt, star, plus, lookbehind, lookahead}
-use Rattle.strkw_regex_core.specs.Meaning.{Rounds, no_round, a_round, Matches}
-use Rattle.strkw_regex_core.specs.Times.{Times, any_times, some_times, once_at_most, exact_times, least_times, range_times, repetition}
-use Rattle.strkw_regex_core.specs.Times.{quantified_pattern}
+use Rattle.strkw_regex_core.specs.machine.MarkedPattern.{MarkedPattern, empty, class, look, cat, alt, star, plus, lookbehind, lookahead}
+use Rattle.strkw_regex_core.specs.machine.MarkedMeaning.{Rounds, no_round, a_round, Matches}
+use Rattle.strkw_regex_core.specs.machine.Times.{Times, any_times, some_times, once_at_most, exact_times, least_times, range_times, repetition}
+use Rattle.strkw_regex_core.specs.machine.Times.{quantified_pattern}
 use Rattle.strkw_regex_core.specs.Program.{is_class, is_empty, alternatives}
 use Rattle.strkw_regex_core.specs.OneCharLookahead.{is_glance, are_told}
 use Rattle.strkw_regex_core.specs.Size.{steps_of, steps, spread}
-use Rattle.strkw_regex_core.specs.Mirror.{mirror}
+use Rattle.strkw_regex_core.specs.machine.Mirror.{mirror}
 use Rattle.strkw_regex_core.specs.machine.Positions.{is_unmarked}
 use Rattle.strkw_regex_core.specs.machine.EquivalentPatterns.{EquivalentPatterns}
 use Rattle.std.specs.declared.alloc.AllocError.{AllocError}
@@ -26,11 +26,11 @@ use Rattle.strkw_regex_core.proofs.PatternEquivalences.{plus_same, spread_look, 
 -- two patterns one behind the other match what they do in the other order
 module _ (text : List ℕ) where
   -- wherever the one and then the other match, the other and then the one do
-  abbrev Swaps : Pattern → Pattern → Type 0
+  abbrev Swaps : MarkedPattern → MarkedPattern → Type 0
   Swaps q r = (i j : ℕ) → ((m : ℕ) × Matches text q i m × Matches text r m j) → (m : ℕ) × Matches text r i m × Matches text q m j
 
   -- a pattern and copies of another
-  swaps_copies : (q r : Pattern) → Swaps q r → (n : ℕ) → Swaps q (repetition n r)
+  swaps_copies : (q r : MarkedPattern) → Swaps q r → (n : ℕ) → Swaps q (repetition n r)
   swaps_copies q r f zero i j (m, a, e) = (i, refl, subst (λ (z : ℕ). Matches text q i z) e a)
   swaps_copies q r f (suc n) i j (m, a, (x, b, c)) =
       let one = f i x (m, a, b) in
@@ -38,7 +38,7 @@ module _ (text : List ℕ) where
       (more.0, (one.0, one.1, more.1), more.2)
 
   -- copies of a pattern and another
-  copies_swap : (r q : Pattern) → Swaps r q → (n : ℕ) → Swaps (repetition n r) q
+  copies_swap : (r q : MarkedPattern) → Swaps r q → (n : ℕ) → Swaps (repetition n r) q
   copies_swap r q f zero i j (m, e, a) = (j, subst (λ (z : ℕ). Matches text q z j) (sym e) a, refl)
   copies_swap r q f (suc n) i j (m, (x, b, c), a) =
       let more = copies_swap r q f n x j (m, c, a) in
@@ -53,25 +53,25 @@ module _ (text : List ℕ) where
       (last.0, a_round i m r last.1, last.2)
 
   -- a pattern and any number of it
-  swaps_star : (q : Pattern) → Swaps q (star q)
+  swaps_star : (q : MarkedPattern) → Swaps q (star q)
   swaps_star q i j (m, a, rs) = last_of (Matches text q) j i m a rs
 
   -- any number of a pattern and the pattern
-  star_swaps : (q : Pattern) → Swaps (star q) q
+  star_swaps : (q : MarkedPattern) → Swaps (star q) q
   star_swaps q i j (m, rs, a) = first_of (Matches text q) m j i rs a
 
   -- one and what may be missing
-  swaps_option : (q : Pattern) → Swaps q (alt empty q)
+  swaps_option : (q : MarkedPattern) → Swaps q (alt empty q)
   swaps_option q i j (m, a, inl e) = (i, inl refl, subst (λ (z : ℕ). Matches text q i z) e a)
   swaps_option q i j (m, a, inr b) = (m, inr a, b)
 
   -- what may be missing and one
-  option_swaps : (q : Pattern) → Swaps (alt empty q) q
+  option_swaps : (q : MarkedPattern) → Swaps (alt empty q) q
   option_swaps q i j (m, inl e, a) = (j, subst (λ (z : ℕ). Matches text q z j) (sym e) a, inl refl)
   option_swaps q i j (m, inr b, a) = (m, b, inr a)
 
 -- a mirror is nothing where the pattern is
-pub mirror_nothing : (p : Pattern) → is_empty (mirror p) ≡ is_empty p
+pub mirror_nothing : (p : MarkedPattern) → is_empty (mirror p) ≡ is_empty p
 mirror_nothing empty = refl
 mirror_nothing (class m n rs) = refl
 mirror_nothing (look l) = refl
@@ -87,7 +87,7 @@ mirror_nothing (lookbehind n p) = refl
 mirror_nothing (lookahead n p) = refl
 
 -- it is a class where the pattern is
-pub mirror_class : (p : Pattern) → is_class (mirror p) ≡ is_class p
+pub mirror_class : (p : MarkedPattern) → is_class (mirror p) ≡ is_class p
 mirror_class empty = refl
 mirror_class (class m n rs) = refl
 mirror_class (look l) = refl
@@ -103,11 +103,11 @@ mirror_class (lookbehind n p) = refl
 mirror_class (lookahead n p) = refl
 
 -- and with a mark beside what lookarounds look for it takes as many steps, by itself and among alternatives
-abbrev TakesSame : Pattern → Pattern → Type 0
+abbrev TakesSame : MarkedPattern → MarkedPattern → Type 0
 TakesSame p q = (steps (spread p) ≡ steps (spread q)) × (steps_of (alternatives (spread p)) ≡ steps_of (alternatives (spread q)))
 
 -- the mirror of a pattern takes as many so as the pattern does
-mirror_spread : (p : Pattern) → TakesSame (mirror p) p
+mirror_spread : (p : MarkedPattern) → TakesSame (mirror p) p
 mirror_spread empty = (refl, refl)
 mirror_spread (class m n rs) = (refl, refl)
 mirror_spread (look l) = (refl, refl)
@@ -145,7 +145,7 @@ mirror_spread (lookahead n p) =
     (same, same)
 
 -- so it has as many by itself
-pub mirror_steps : (p : Pattern) → steps (spread (mirror p)) ≡ steps (spread p)
+pub mirror_steps : (p : MarkedPattern) → steps (spread (mirror p)) ≡ steps (spread p)
 mirror_steps p = (mirror_spread p).0
 
 -- both of two are so in either order
@@ -156,7 +156,7 @@ and_turned false true = refl
 and_turned false false = refl
 
 -- two patterns that match the same in either order, and are not nothing, are alike in either
-swapped : (q r : Pattern) → is_empty q ≡ false → is_empty r ≡ false → ((text : List ℕ) → Swaps text q r × Swaps text r q)
+swapped : (q r : MarkedPattern) → is_empty q ≡ false → is_empty r ≡ false → ((text : List ℕ) → Swaps text q r × Swaps text r q)
     → EquivalentPatterns (cat q r) (cat r q)
 swapped q r some other swap =
     let same : steps (cat q r) ≡ steps (cat r q) = omega (arith, cat_steps q r, cat_steps r q) in
@@ -177,7 +177,7 @@ swapped q r some other swap =
     }
 
 -- such patterns, each like the mirror of another, are one behind the other like the mirror of both
-in_order : (p q r s : Pattern) (b c : Bool) → is_empty p ≡ b → is_empty q ≡ c → EquivalentPatterns r (mirror p) → EquivalentPatterns s (mirror q)
+in_order : (p q r s : MarkedPattern) (b c : Bool) → is_empty p ≡ b → is_empty q ≡ c → EquivalentPatterns r (mirror p) → EquivalentPatterns s (mirror q)
     → ((text : List ℕ) → Swaps text r s × Swaps text s r)
     → EquivalentPatterns (cat r s) (if b || c then cat (mirror p) (mirror q) else cat (mirror q) (mirror p))
 in_order p q r s true c e g u w swap = alike_cat _ _ _ _ u w
@@ -186,7 +186,7 @@ in_order p q r s false false e g u w swap =
     alike_trans _ _ _ (swapped r s (u.nothing ∙ mirror_nothing p ∙ e) (w.nothing ∙ mirror_nothing q ∙ g) swap) (alike_cat _ _ _ _ w u)
 
 -- copies of a mirror are like the mirror of copies
-repeated_mirror : (n : ℕ) (p : Pattern) → EquivalentPatterns (repetition n (mirror p)) (mirror (repetition n p))
+repeated_mirror : (n : ℕ) (p : MarkedPattern) → EquivalentPatterns (repetition n (mirror p)) (mirror (repetition n p))
 repeated_mirror zero p = alike_refl empty
 repeated_mirror (suc n) p =
     in_order p (repetition n p) (mirror p) (repetition n (mirror p)) _ _ refl refl (alike_refl (mirror p)) (repeated_mirror n p)
@@ -196,7 +196,7 @@ repeated_mirror (suc n) p =
     ))
 
 -- and so it is with all that is repeated
-pub times_mirror : (t : Times) (p : Pattern) → EquivalentPatterns (quantified_pattern t (mirror p)) (mirror (quantified_pattern t p))
+pub times_mirror : (t : Times) (p : MarkedPattern) → EquivalentPatterns (quantified_pattern t (mirror p)) (mirror (quantified_pattern t p))
 times_mirror any_times p = alike_refl _
 times_mirror some_times p = alike_refl _
 times_mirror once_at_most p = alike_refl _
@@ -217,11 +217,11 @@ times_mirror (range_times n m) p =
     ))
 
 -- what is like the mirror of a pattern is, repeated, like the mirror of that repeated
-pub counted_mirror : (t : Times) (p r : Pattern) → EquivalentPatterns r (mirror p) → EquivalentPatterns (quantified_pattern t r) (mirror (quantified_pattern t p))
+pub counted_mirror : (t : Times) (p r : MarkedPattern) → EquivalentPatterns r (mirror p) → EquivalentPatterns (quantified_pattern t r) (mirror (quantified_pattern t p))
 counted_mirror t p r u = alike_trans _ _ _ (alike_times t r (mirror p) u) (times_mirror t p)
 
 -- what are like the mirrors of two patterns are, in the order of their mirror, like that
-pub cat_mirror : (p q r s : Pattern) (b : Bool) → (is_empty p || is_empty q) ≡ b → EquivalentPatterns r (mirror p) → EquivalentPatterns s (mirror q)
+pub cat_mirror : (p q r s : MarkedPattern) (b : Bool) → (is_empty p || is_empty q) ≡ b → EquivalentPatterns r (mirror p) → EquivalentPatterns s (mirror q)
     → EquivalentPatterns (if b then cat r s else cat s r) (mirror (cat p q))
 cat_mirror p q r s b e u w =
     subst (λ (c : Bool). EquivalentPatterns (if b then cat r s else cat s r)

@@ -3,12 +3,15 @@ use Rattle.std.proofs.Common.{◌≡◌, ◌↔◌, ℕ, zero, suc, ◌+◌, ◌
 use Rattle.std.proofs.Common.{slice_get, refl, sym, ap, subst, ◌∙◌, inl, inr, ⊎_elim, arith, if◌then◌else◌}
 use Rattle.std.proofs.lemmas.List.{length-reverse, get_or-reverse}
 use Rattle.std.proofs.lemmas.Option.{slice_get-get_or, slice_get_past, slice_get_within}
-use Rattle.strkw_regex_core.specs.Tree.{Look, start, end, boundary, no_boundary, Pattern, empty, class, look, cat, alt, star, plus, lookbehind}
-use Rattle.strkw_regex_core.specs.Tree.{lookahead}
+use Rattle.strkw_regex_core.specs.Tree.{Look, start, end, boundary, no_boundary}
+use Rattle.strkw_regex_core.specs.machine.MarkedPattern.{MarkedPattern, empty, class, look, cat, alt, star, plus, lookbehind}
+use Rattle.strkw_regex_core.specs.machine.MarkedPattern.{lookahead}
 use Rattle.strkw_charset.specs.Membership.{differ}
-use Rattle.strkw_regex_core.specs.Meaning.{Rounds, no_round, a_round, before, is_word, holds, Unless, Matches, Found}
+use Rattle.strkw_regex_core.specs.machine.MarkedMeaning.{Rounds, no_round, a_round, Matches, Found}
+use Rattle.strkw_regex_core.specs.Meaning.{before, is_word, holds, Unless}
 use Rattle.strkw_regex_core.specs.Program.{is_empty}
-use Rattle.strkw_regex_core.specs.Mirror.{mirror_look, mirror, mirror_if, along, is_backward, target, sought_in}
+use Rattle.strkw_regex_core.specs.Mirror.{mirror_look}
+use Rattle.strkw_regex_core.specs.machine.Mirror.{mirror, mirror_if, along, is_backward, target, sought_in}
 use Rattle.strkw_regex_core.proofs.Behind.{nothing_is}
 use Rattle.strkw_regex_core.proofs.Search.{before_next}
 use Rattle.strkw_regex_core.proofs.Steps.{forwards, rounds_forwards}
@@ -27,7 +30,7 @@ module _ (text : List ℕ) where
   rounds_stay R f j i h (a_round _ l m s) = rounds_stay R f j l (f i l h m) s
 
   -- nor does a pattern
-  pub stays : (p : Pattern) (i j : ℕ) → i ≤ length text → Matches text p i j → j ≤ length text
+  pub stays : (p : MarkedPattern) (i j : ℕ) → i ≤ length text → Matches text p i j → j ≤ length text
   stays empty i j h m = omega (arith, m)
   stays (class b n rs) i j h w = omega (arith, w.3, slice_get_within text i w.0 w.1)
   stays (look l) i j h m = omega (arith, m.1)
@@ -51,24 +54,24 @@ first_of S m k l (no_round _ e) s = (k, subst (λ (z : ℕ). S z k) (sym e) s, n
 first_of S m k l (a_round _ x r rs) s = (x, r, one_more S m k x rs s)
 
 -- where the one leads from place to place, the other does between the same places, counted from the end
-abbrev Flips : ℕ → (ℕ → ℕ → Type 0) → (ℕ → ℕ → Type 0) → Type 0
+abbrev pub Flips : ℕ → (ℕ → ℕ → Type 0) → (ℕ → ℕ → Type 0) → Type 0
 Flips n R S = (i j k l : ℕ) → i + k ≡ n → j + l ≡ n → R i j → S l k
 
 -- it leads to no place before its own
-abbrev IsForwards : (ℕ → ℕ → Type 0) → Type 0
+abbrev pub IsForwards : (ℕ → ℕ → Type 0) → Type 0
 IsForwards R = (i j : ℕ) → R i j → i ≤ j
 
 -- nor beyond the last
-abbrev StaysWithin : ℕ → (ℕ → ℕ → Type 0) → Type 0
+abbrev pub StaysWithin : ℕ → (ℕ → ℕ → Type 0) → Type 0
 StaysWithin n R = (i j : ℕ) → i ≤ n → R i j → j ≤ n
 
 module _ (n : ℕ) where
   -- as many places are left behind one as make up all
-  left_over : (i : ℕ) → i ≤ n → i + (n - i) ≡ n
+  pub left_over : (i : ℕ) → i ≤ n → i + (n - i) ≡ n
   left_over i h = omega (arith, h)
 
   -- of two that follow each other, the second comes first
-  cat_flips : (R Q S T : ℕ → ℕ → Type 0) → IsForwards Q → Flips n R S → Flips n Q T
+  pub cat_flips : (R Q S T : ℕ → ℕ → Type 0) → IsForwards Q → Flips n R S → Flips n Q T
       → Flips n (λ i j. (m : ℕ) × R i m × Q m j) (λ i j. (m : ℕ) × T i m × S m j)
   cat_flips R Q S T f u w i j k l e g (m, r, q) =
       let d : m + (n - m) ≡ n = left_over m (omega (arith, f m j q, g)) in
@@ -93,7 +96,7 @@ module _ (n : ℕ) where
       first_of S (n - m) k l (rounds_turned R S f u j m (n - m) l d g rs) (u i m k (n - m) e d r)
 
   -- what leads up to a place, or to none, leads on from the same place, counted from the end
-  up_to : (R S : ℕ → ℕ → Type 0) → IsForwards R → StaysWithin n S → Flips n R S → Flips n S R → (i l : ℕ) → i + l ≡ n
+  pub up_to : (R S : ℕ → ℕ → Type 0) → IsForwards R → StaysWithin n S → Flips n R S → Flips n S R → (i l : ℕ) → i + l ≡ n
       → ((a : ℕ) × R a i) ↔ ((a : ℕ) × S l a)
   up_to R S f w u v i l e = (
     λ m. let d : m.0 + (n - m.0) ≡ n = left_over m.0 (omega (arith, f m.0 i m.1, e)) in
@@ -103,13 +106,13 @@ module _ (n : ℕ) where
   )
 
   -- a lookbehind becomes a lookahead
-  behind_flips : (b : Bool) (R S : ℕ → ℕ → Type 0) → IsForwards R → StaysWithin n S → Flips n R S → Flips n S R
+  pub behind_flips : (b : Bool) (R S : ℕ → ℕ → Type 0) → IsForwards R → StaysWithin n S → Flips n R S → Flips n S R
       → Flips n (λ i j. Unless b ((a : ℕ) × R a i) × (i ≡ j)) (λ i j. Unless b ((a : ℕ) × S i a) × (i ≡ j))
   behind_flips b R S f w u v i j k l e g (m, d) =
       (unless_same b _ _ (up_to R S f w u v i l (omega (arith, g, d))) m, omega (arith, e, g, d))
 
   -- and a lookahead becomes a lookbehind
-  ahead_flips : (b : Bool) (R S : ℕ → ℕ → Type 0) → IsForwards R → StaysWithin n S → Flips n R S → Flips n S R
+  pub ahead_flips : (b : Bool) (R S : ℕ → ℕ → Type 0) → IsForwards R → StaysWithin n S → Flips n R S → Flips n S R
       → Flips n (λ i j. Unless b ((a : ℕ) × S i a) × (i ≡ j)) (λ i j. Unless b ((a : ℕ) × R a i) × (i ≡ j))
   ahead_flips b R S f w u v i j k l e g (m, d) =
       let same = up_to R S f w u v l i (omega (arith, g, d)) in
@@ -123,7 +126,7 @@ differ_turned false true = refl
 differ_turned false false = refl
 
 -- an assertion holds between two characters where its mirror holds between them in the other order
-look_turned : (l : Look) (b a : Option ℕ) → holds l b a ≡ holds (mirror_look l) a b
+pub look_turned : (l : Look) (b a : Option ℕ) → holds l b a ≡ holds (mirror_look l) a b
 look_turned start b a = refl
 look_turned end b a = refl
 look_turned boundary b a = differ_turned (is_word b) (is_word a)
@@ -133,51 +136,51 @@ look_turned no_boundary b a = ap not (differ_turned (is_word b) (is_word a))
 module _ (text back : List ℕ) (as_long : length back ≡ length text)
     (same_char : (i k : ℕ) → i + suc k ≡ length text → slice_get text i ≡ slice_get back k) where
   -- the character behind a place is the one before it
-  behind_is : (i k : ℕ) → i + k ≡ length text → slice_get text i ≡ before back k
+  pub behind_is : (i k : ℕ) → i + k ≡ length text → slice_get text i ≡ before back k
   behind_is i zero e = slice_get_past text i (omega (arith, e))
   behind_is i (suc k) e = same_char i k e ∙ sym (before_next back k)
 
   -- and the one before it is the one behind it
-  before_is : (i k : ℕ) → i + k ≡ length text → before text i ≡ slice_get back k
+  pub before_is : (i k : ℕ) → i + k ≡ length text → before text i ≡ slice_get back k
   before_is zero k e = sym (slice_get_past back k (omega (arith, e, as_long)))
   before_is (suc i) k e = before_next text i ∙ same_char i k (omega (arith, e))
 
   -- a match of the pattern in the one is a match of its mirror in the other, and back
-  abbrev AreTurned : Pattern → Pattern → Type 0
+  abbrev AreTurned : MarkedPattern → MarkedPattern → Type 0
   AreTurned p q = Flips (length text) (Matches text p) (Matches back q) × Flips (length text) (Matches back q) (Matches text p)
 
   -- what stands behind nothing is turned by itself
-  behind_nothing : (p q : Pattern) → AreTurned p q → AreTurned (cat empty p) (cat empty q)
+  behind_nothing : (p q : MarkedPattern) → AreTurned p q → AreTurned (cat empty p) (cat empty q)
   behind_nothing p q w = (
     λ i j k l e g m. (l, refl, w.0 i j k l e g (subst (λ (z : ℕ). Matches text p z j) (sym m.1) m.2)),
     λ i j k l e g m. (l, refl, w.1 i j k l e g (subst (λ (z : ℕ). Matches back q z j) (sym m.1) m.2)),
   )
 
   -- and so is what stands before nothing
-  before_nothing : (p q : Pattern) → AreTurned p q → AreTurned (cat p empty) (cat q empty)
+  before_nothing : (p q : MarkedPattern) → AreTurned p q → AreTurned (cat p empty) (cat q empty)
   before_nothing p q w = (
     λ i j k l e g m. (k, w.0 i j k l e g (subst (λ (z : ℕ). Matches text p i z) m.2 m.1), refl),
     λ i j k l e g m. (k, w.1 i j k l e g (subst (λ (z : ℕ). Matches back q i z) m.2 m.1), refl),
   )
 
   -- two patterns, by whether one of them is nothing
-  cat_turned : (p q : Pattern) (b c : Bool) → is_empty p ≡ b → is_empty q ≡ c → AreTurned p (mirror p) → AreTurned q (mirror q)
+  cat_turned : (p q : MarkedPattern) (b c : Bool) → is_empty p ≡ b → is_empty q ≡ c → AreTurned p (mirror p) → AreTurned q (mirror q)
       → AreTurned (cat p q) (if b || c then cat (mirror p) (mirror q) else cat (mirror q) (mirror p))
   cat_turned p q true c e g u w =
-      subst (λ (r : Pattern). AreTurned (cat r q) (cat (mirror r) (mirror q))) (sym (nothing_is p e)) (behind_nothing q (mirror q) w)
+      subst (λ (r : MarkedPattern). AreTurned (cat r q) (cat (mirror r) (mirror q))) (sym (nothing_is p e)) (behind_nothing q (mirror q) w)
   cat_turned p q false true e g u w =
-      subst (λ (r : Pattern). AreTurned (cat p r) (cat (mirror p) (mirror r))) (sym (nothing_is q g)) (before_nothing p (mirror p) u)
+      subst (λ (r : MarkedPattern). AreTurned (cat p r) (cat (mirror p) (mirror r))) (sym (nothing_is q g)) (before_nothing p (mirror p) u)
   cat_turned p q false false e g u w = (
     cat_flips (length text) _ _ _ _ (forwards text q) u.0 w.0,
     cat_flips (length text) _ _ _ _ (forwards back (mirror p)) w.1 u.1,
   )
 
   -- no match in the other text goes beyond its end
-  stays_back : (p : Pattern) → StaysWithin (length text) (Matches back p)
+  stays_back : (p : MarkedPattern) → StaysWithin (length text) (Matches back p)
   stays_back p i j h m = omega (arith, as_long, stays back p i j (omega (arith, as_long, h)) m)
 
   -- each pattern and its mirror match the same, turned round
-  pub turned : (p : Pattern) → AreTurned p (mirror p)
+  pub turned : (p : MarkedPattern) → AreTurned p (mirror p)
   turned empty = (λ i j k l e g m. omega (arith, e, g, m), λ i j k l e g m. omega (arith, e, g, m))
   turned (class b n rs) = (
     λ i j k l e g m. (m.0, sym (same_char i l (omega (arith, g, m.3))) ∙ m.1, m.2, omega (arith, e, g, m.3)),
@@ -222,7 +225,7 @@ module _ (text back : List ℕ) (as_long : length back ≡ length text)
 -- a text turned round
 module _ (text : List ℕ) where
   -- has each character as far from its end
-  reversed_char : (i k : ℕ) → i + suc k ≡ length text → slice_get text i ≡ slice_get (reverse text) k
+  pub reversed_char : (i k : ℕ) → i + suc k ≡ length text → slice_get text i ≡ slice_get (reverse text) k
   reversed_char i k e =
       let far : length text - 1 - k ≡ i = omega (arith, e) in
       slice_get-get_or text i 0 (omega (arith, e))
@@ -231,7 +234,7 @@ module _ (text : List ℕ) where
       ∙ sym (slice_get-get_or (reverse text) k 0 (omega (arith, e, length-reverse text)))
 
   -- so a pattern is found in a text exactly where its mirror is in the text turned round
-  pub found_mirrored : (p : Pattern) → Found p text ↔ Found (mirror p) (reverse text)
+  pub found_mirrored : (p : MarkedPattern) → Found p text ↔ Found (mirror p) (reverse text)
   found_mirrored p =
       let both = turned text (reverse text) (length-reverse text) reversed_char p in (
         λ f. let h = stays text p f.0 f.1 f.2 f.3 in (
@@ -250,7 +253,7 @@ module _ (text : List ℕ) where
       )
 
   -- and it matches from a place on exactly where its mirror matches up to that place, counted from the end
-  pub begins_turned : (p : Pattern) (i : ℕ) → i ≤ length text
+  pub begins_turned : (p : MarkedPattern) (i : ℕ) → i ≤ length text
       → ((k : ℕ) × Matches (reverse text) (mirror p) k (length text - i)) ↔ ((k : ℕ) × Matches text p i k)
   begins_turned p i h =
       let both = turned text (reverse text) (length-reverse text) reversed_char p in
@@ -258,7 +261,7 @@ module _ (text : List ℕ) where
       (length text - i) i (omega (arith, h))
 
 -- and what is looked for is found there exactly where the pattern is in the text
-pub found_sought : (p : Pattern) (text : List ℕ) → Found (target p) (sought_in p text) ↔ Found p text
+pub found_sought : (p : MarkedPattern) (text : List ℕ) → Found (target p) (sought_in p text) ↔ Found p text
 found_sought p text = by_test (is_backward p)
   where
     -- by whether the search goes from the end on

@@ -1,9 +1,9 @@
 -- Patterns of parts that come to the same come to the same.
 use Rattle.std.proofs.Common.{◌≡◌, ℕ, zero, suc, ◌-◌, ◌+◌, Bool, true, false, ◌&&◌, [], refl, sym, ap, ◌∙◌, inl, inr, ⊎_elim, true≢false, arith}
-use Rattle.strkw_regex_core.specs.Tree.{Pattern, empty, class, look, cat, alt, star, plus, lookbehind, lookahead}
-use Rattle.strkw_regex_core.specs.Meaning.{Rounds, no_round, a_round, Matches}
-use Rattle.strkw_regex_core.specs.Times.{Times, any_times, some_times, once_at_most, exact_times, least_times, range_times, repetition}
-use Rattle.strkw_regex_core.specs.Times.{quantified_pattern}
+use Rattle.strkw_regex_core.specs.machine.MarkedPattern.{MarkedPattern, empty, class, look, cat, alt, star, plus, lookbehind, lookahead}
+use Rattle.strkw_regex_core.specs.machine.MarkedMeaning.{Rounds, no_round, a_round, Matches}
+use Rattle.strkw_regex_core.specs.machine.Times.{Times, any_times, some_times, once_at_most, exact_times, least_times, range_times, repetition}
+use Rattle.strkw_regex_core.specs.machine.Times.{quantified_pattern}
 use Rattle.strkw_regex_core.specs.Program.{is_class, is_empty, alternatives}
 use Rattle.strkw_regex_core.specs.OneCharLookahead.{is_glance, are_told}
 use Rattle.strkw_regex_core.specs.Size.{steps_of, steps, spread}
@@ -13,7 +13,7 @@ use Rattle.strkw_regex_core.proofs.Sizes.{cat_steps, alt_steps, beside_steps, st
 use Rattle.strkw_charset.proofs.Booleans.{and_left, and_right}
 
 -- each pattern is like itself
-pub alike_refl : (p : Pattern) → EquivalentPatterns p p
+pub alike_refl : (p : MarkedPattern) → EquivalentPatterns p p
 alike_refl p = record {
   meaning = λ text i j. (λ m. m, λ m. m);
   nothing = refl;
@@ -29,7 +29,7 @@ alike_refl p = record {
 }
 
 -- and like all that what is like it is like
-pub alike_trans : (p q r : Pattern) → EquivalentPatterns p q → EquivalentPatterns q r → EquivalentPatterns p r
+pub alike_trans : (p q r : MarkedPattern) → EquivalentPatterns p q → EquivalentPatterns q r → EquivalentPatterns p r
 alike_trans p q r u w = record {
   meaning = λ text i j. (
     λ m. (w.meaning text i j).0 ((u.meaning text i j).0 m),
@@ -52,7 +52,7 @@ pub both_same : (a b c d : Bool) → a ≡ c → b ≡ d → (a && b) ≡ (c && 
 both_same a b c d e f = ap (λ (x : Bool). x && b) e ∙ ap (λ (x : Bool). c && x) f
 
 -- patterns one behind the other
-pub alike_cat : (p q r s : Pattern) → EquivalentPatterns p r → EquivalentPatterns q s → EquivalentPatterns (cat p q) (cat r s)
+pub alike_cat : (p q r s : MarkedPattern) → EquivalentPatterns p r → EquivalentPatterns q s → EquivalentPatterns (cat p q) (cat r s)
 alike_cat p q r s u w =
     let same : are_told (cat r s) ≡ true → steps (cat p q) ≡ steps (cat r s) =
     λ t. omega (arith, cat_steps p q, cat_steps r s, u.steps (and_left _ _ t), w.steps (and_right (are_told r) _ t)) in
@@ -76,13 +76,13 @@ alike_cat p q r s u w =
     }
 
 -- of one class that may be missing, the steps are its own
-pub option_class : (p q : Pattern) → (is_empty p && is_class q) ≡ true → steps (alt p q) ≡ steps q
+pub option_class : (p q : MarkedPattern) → (is_empty p && is_class q) ≡ true → steps (alt p q) ≡ steps q
 option_class empty (class m n rs) h = refl
 option_class empty _ h = absurd (true≢false (sym h))
 option_class _ q h = absurd (true≢false (sym h))
 
 -- alternatives of as many steps, the first nothing and the second a class where those are, take as many
-pub alt_same : (p q r s : Pattern) → is_empty p ≡ is_empty r → is_class q ≡ is_class s
+pub alt_same : (p q r s : MarkedPattern) → is_empty p ≡ is_empty r → is_class q ≡ is_class s
     → steps_of (alternatives p) ≡ steps_of (alternatives r) → steps q ≡ steps s → steps (alt p q) ≡ steps (alt r s)
 alt_same p q r s nothing classes beside same = by_option (is_empty p && is_class q) refl
   where
@@ -92,7 +92,7 @@ alt_same p q r s nothing classes beside same = by_option (is_empty p && is_class
     by_option false e = omega (arith, alt_steps p q e, alt_steps r s (sym (both_same _ _ _ _ nothing classes) ∙ e), beside, same)
 
 -- a mark beside what lookarounds look for makes nothing of what is something
-pub spread_nothing : (p : Pattern) → is_empty (spread p) ≡ is_empty p
+pub spread_nothing : (p : MarkedPattern) → is_empty (spread p) ≡ is_empty p
 spread_nothing empty = refl
 spread_nothing (class m n rs) = refl
 spread_nothing (look l) = refl
@@ -104,7 +104,7 @@ spread_nothing (lookbehind n p) = refl
 spread_nothing (lookahead n p) = refl
 
 -- and no class of what is none
-pub spread_class : (p : Pattern) → is_class (spread p) ≡ is_class p
+pub spread_class : (p : MarkedPattern) → is_class (spread p) ≡ is_class p
 spread_class empty = refl
 spread_class (class m n rs) = refl
 spread_class (look l) = refl
@@ -116,7 +116,7 @@ spread_class (lookbehind n p) = refl
 spread_class (lookahead n p) = refl
 
 -- alternatives
-pub alike_alt : (p q r s : Pattern) → EquivalentPatterns p r → EquivalentPatterns q s → EquivalentPatterns (alt p q) (alt r s)
+pub alike_alt : (p q r s : MarkedPattern) → EquivalentPatterns p r → EquivalentPatterns q s → EquivalentPatterns (alt p q) (alt r s)
 alike_alt p q r s u w = record {
   meaning = λ text i j. (
     λ m. ⊎_elim (λ n. inl ((u.meaning text i j).0 n)) (λ n. inr ((w.meaning text i j).0 n)) m,
@@ -144,17 +144,17 @@ rounds_alike R S f j i (no_round _ e) = no_round i e
 rounds_alike R S f j i (a_round _ l m rs) = a_round i l (f i l m) (rounds_alike R S f j l rs)
 
 -- a class that is repeated takes its own steps
-pub star_class : (p : Pattern) → is_class p ≡ true → steps (star p) ≡ steps p
+pub star_class : (p : MarkedPattern) → is_class p ≡ true → steps (star p) ≡ steps p
 star_class (class m n rs) h = refl
 star_class _ h = absurd (true≢false (sym h))
 
 -- a class once or more takes the steps of the class
-pub plus_class : (p : Pattern) → is_class p ≡ true → steps (plus p) ≡ steps p
+pub plus_class : (p : MarkedPattern) → is_class p ≡ true → steps (plus p) ≡ steps p
 plus_class (class m n rs) h = refl
 plus_class _ h = absurd (true≢false (sym h))
 
 -- so what takes as many steps, and is a class where the other is, takes as many where it is repeated
-pub star_same : (p r : Pattern) → is_class p ≡ is_class r → steps p ≡ steps r → steps (star p) ≡ steps (star r)
+pub star_same : (p r : MarkedPattern) → is_class p ≡ is_class r → steps p ≡ steps r → steps (star p) ≡ steps (star r)
 star_same p r classes same = by_class (is_class p) refl
   where
     by_class : (b : Bool) → is_class p ≡ b → steps (star p) ≡ steps (star r)
@@ -162,7 +162,7 @@ star_same p r classes same = by_class (is_class p) refl
     by_class false e = omega (arith, star_steps p e, star_steps r (sym classes ∙ e), same)
 
 -- once or more, patterns of as many steps take as many, where both are classes or neither is
-pub plus_same : (p r : Pattern) → is_class p ≡ is_class r → steps p ≡ steps r → steps (plus p) ≡ steps (plus r)
+pub plus_same : (p r : MarkedPattern) → is_class p ≡ is_class r → steps p ≡ steps r → steps (plus p) ≡ steps (plus r)
 plus_same p r classes same = by_class (is_class p) refl
   where
     by_class : (b : Bool) → is_class p ≡ b → steps (plus p) ≡ steps (plus r)
@@ -170,7 +170,7 @@ plus_same p r classes same = by_class (is_class p) refl
     by_class false e = omega (arith, plus_steps p e, plus_steps r (sym classes ∙ e), same)
 
 -- what is repeated without end
-pub alike_star : (p r : Pattern) → EquivalentPatterns p r → EquivalentPatterns (star p) (star r)
+pub alike_star : (p r : MarkedPattern) → EquivalentPatterns p r → EquivalentPatterns (star p) (star r)
 alike_star p r u =
     let wide = star_same (spread p) (spread r) (spread_class p ∙ u.class ∙ sym (spread_class r)) u.apart in
     record {
@@ -191,7 +191,7 @@ alike_star p r u =
     }
 
 -- once or more, patterns that are alike are alike
-pub alike_plus : (p r : Pattern) → EquivalentPatterns p r → EquivalentPatterns (plus p) (plus r)
+pub alike_plus : (p r : MarkedPattern) → EquivalentPatterns p r → EquivalentPatterns (plus p) (plus r)
 alike_plus p r u =
     let wide = plus_same (spread p) (spread r) (spread_class p ∙ u.class ∙ sym (spread_class r)) u.apart in
     record {
@@ -212,13 +212,13 @@ alike_plus p r u =
     }
 
 -- what a lookaround looks for, with a mark beside it, takes three steps more
-pub spread_look : (n : Bool) (p : Pattern) → steps (lookbehind n (cat (class false false []) p)) ≡ steps p + 3
+pub spread_look : (n : Bool) (p : MarkedPattern) → steps (lookbehind n (cat (class false false []) p)) ≡ steps p + 3
 spread_look n p =
     let mark : steps (class false false []) ≡ 1 = refl in
     omega (arith, behind_steps n (cat (class false false []) p), cat_steps (class false false []) p, mark)
 
 -- lookarounds
-pub alike_behind : (n : Bool) (p r : Pattern) → EquivalentPatterns p r → EquivalentPatterns (lookbehind n p) (lookbehind n r)
+pub alike_behind : (n : Bool) (p r : MarkedPattern) → EquivalentPatterns p r → EquivalentPatterns (lookbehind n p) (lookbehind n r)
 alike_behind n p r u = record {
   meaning = λ text i j. (
     λ m. (unless_same n _ _ (λ a. (a.0, (u.meaning text a.0 i).0 a.1), λ a. (a.0, (u.meaning text a.0 i).1 a.1)) m.0, m.1),
@@ -237,7 +237,7 @@ alike_behind n p r u = record {
 }
 
 -- lookaheads for patterns that are alike are alike
-pub alike_ahead : (n : Bool) (p r : Pattern) → EquivalentPatterns p r → EquivalentPatterns (lookahead n p) (lookahead n r)
+pub alike_ahead : (n : Bool) (p r : MarkedPattern) → EquivalentPatterns p r → EquivalentPatterns (lookahead n p) (lookahead n r)
 alike_ahead n p r u = record {
   meaning = λ text i j. (
     λ m. (unless_same n _ _ (λ a. (a.0, (u.meaning text i a.0).0 a.1), λ a. (a.0, (u.meaning text i a.0).1 a.1)) m.0, m.1),
@@ -256,12 +256,12 @@ alike_ahead n p r u = record {
 }
 
 -- what is repeated
-alike_repeated : (n : ℕ) (p r : Pattern) → EquivalentPatterns p r → EquivalentPatterns (repetition n p) (repetition n r)
+alike_repeated : (n : ℕ) (p r : MarkedPattern) → EquivalentPatterns p r → EquivalentPatterns (repetition n p) (repetition n r)
 alike_repeated zero p r u = alike_refl empty
 alike_repeated (suc n) p r u = alike_cat _ _ _ _ u (alike_repeated n p r u)
 
 -- with a quantifier, patterns that are alike are alike
-pub alike_times : (t : Times) (p r : Pattern) → EquivalentPatterns p r → EquivalentPatterns (quantified_pattern t p) (quantified_pattern t r)
+pub alike_times : (t : Times) (p r : MarkedPattern) → EquivalentPatterns p r → EquivalentPatterns (quantified_pattern t p) (quantified_pattern t r)
 alike_times any_times p r u = alike_star p r u
 alike_times some_times p r u = alike_plus p r u
 alike_times once_at_most p r u = alike_alt _ _ _ _ (alike_refl empty) u

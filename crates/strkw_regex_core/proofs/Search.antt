@@ -3,14 +3,15 @@ use Rattle.std.proofs.Common.{◌≡◌, ◌⊎◌, ◌↔◌, ℕ, suc, ◌+◌
 use Rattle.std.proofs.Common.{IsTrue, refl, sym, ap, subst, ◌∙◌, inl, inr, ⊎_elim, true≢false, arith}
 use Rattle.std.proofs.lemmas.Bool.Decides.{nat_tests}
 use Rattle.std.proofs.lemmas.Option.{slice_get_past, slice_get_read}
-use Rattle.strkw_regex_core.specs.Tree.{Pattern}
-use Rattle.strkw_regex_core.specs.Meaning.{before, Matches, Found}
+use Rattle.strkw_regex_core.specs.machine.MarkedPattern.{MarkedPattern}
+use Rattle.strkw_regex_core.specs.Meaning.{before}
+use Rattle.strkw_regex_core.specs.machine.MarkedMeaning.{Matches, Found}
 use Rattle.strkw_regex_core.specs.machine.Positions.{leaves, step, Kept, Later, is_clean}
 use Rattle.strkw_regex_core.proofs.Steps.{Says, same_meaning, left, stepped, goes_on, goes_back, none_after_end}
 use Rattle.strkw_regex_core.proofs.Behind.{seen_from, says_of, kept_next, none_under_way}
 
 -- where the marks within lookbehinds are those of all ways that have begun
-module _ (text : List ℕ) (p : Pattern) (k : ℕ) (within : k ≤ length text) (kept : Kept (seen_from text) text p k) where
+module _ (text : List ℕ) (p : MarkedPattern) (k : ℕ) (within : k ≤ length text) (kept : Kept (seen_from text) text p k) where
   -- at this place, each lookbehind and lookahead says what is so
   says : Says (seen_from text k) text k p
   says = says_of (seen_from text) text k within p kept
@@ -49,7 +50,7 @@ module _ (text : List ℕ) (p : Pattern) (k : ℕ) (within : k ≤ length text) 
       (goes_back (seen_from text k) text k p says true k (inl (h, refl)))
 
 -- for a pattern without marks a match is under way or begins at the first place or later exactly where it is found
-pub at_first : (text : List ℕ) (p : Pattern) → is_clean p ≡ true → Later text p 0 ↔ Found p text
+pub at_first : (text : List ℕ) (p : MarkedPattern) → is_clean p ≡ true → Later text p 0 ↔ Found p text
 at_first text p h = (first, λ f. inr (f.0, f.1, omega arith, f.2, f.3))
   where
     -- what is under way or begins from the first place on is found
@@ -59,7 +60,7 @@ at_first text p h = (first, λ f. inr (f.0, f.1, omega arith, f.2, f.3))
 
 -- no match begins beyond the end
 -- at the end a match is under way or begins exactly where one ends there
-pub at_last : (text : List ℕ) (p : Pattern) (k : ℕ) → Kept (seen_from text) text p k → length text ≡ k
+pub at_last : (text : List ℕ) (p : MarkedPattern) (k : ℕ) → Kept (seen_from text) text p k → length text ≡ k
     → Later text p k ↔ (left (seen_from text k) text k p true ≡ true)
 at_last text p k kept e = (λ w. ⊎_elim (λ h. h) (λ w. absurd (beyond w)) (later_step text p k whole kept w), here_back text p k whole kept)
   where
@@ -76,7 +77,7 @@ at_last text p k kept e = (λ w. ⊎_elim (λ h. h) (λ w. absurd (beyond w)) (l
     beyond (inr (i, j, above, within, m)) = absurd (omega arith)
 
 -- over a place at which nothing is found
-pub passes : (text : List ℕ) (p : Pattern) (k : ℕ) → Kept (seen_from text) text p k → k ≤ length text
+pub passes : (text : List ℕ) (p : MarkedPattern) (k : ℕ) → Kept (seen_from text) text p k → k ≤ length text
     → left (seen_from text k) text k p true ≡ false
     → Later text (stepped (seen_from text k) text k p true) (k + 1) ↔ Later text p k
 passes text p k kept h none =
@@ -90,7 +91,7 @@ before_next text k =
     rw (some, e) refl
 
 -- a turn of the search: the character c stands at place k, and `next` is the place behind it
-module _ (text : List ℕ) (p : Pattern) (k next : ℕ) (last : Option ℕ) (c : ℕ) (within : k < length text) (is : c ≡ get_or text k c)
+module _ (text : List ℕ) (p : MarkedPattern) (k next : ℕ) (last : Option ℕ) (c : ℕ) (within : k < length text) (is : c ≡ get_or text k c)
     (after : last ≡ before text k) (follows : next ≡ suc k) (kept : Kept (seen_from text) text p k) (answer : Bool)
     (left_is : answer ≡ leaves last (Some c) p true) where
   -- it is there
@@ -110,14 +111,14 @@ module _ (text : List ℕ) (p : Pattern) (k next : ℕ) (last : Option ℕ) (c :
   found_here said = here_back text p k (omega arith) kept (sym answer_is ∙ said)
 
   -- behind the character the marks within lookbehinds are kept
-  pub still_kept : (q : Pattern) → q ≡ step last (Some c) p true → Kept (seen_from text) text q next
+  pub still_kept : (q : MarkedPattern) → q ≡ step last (Some c) p true → Kept (seen_from text) text q next
   still_kept q e =
       let stepped_is : q ≡ stepped (seen_from text k) text k p true = e ∙ rw (after, here) refl in
       let next_is : next ≡ k + 1 = omega arith in
       rw (stepped_is, next_is) (kept_next (seen_from text) text k (omega arith) p true kept)
 
   -- where it is false, a match is still to come at the next place exactly where it is here
-  pub not_yet : answer ≡ false → (q : Pattern) → q ≡ step last (Some c) p true → Later text q next ↔ Later text p k
+  pub not_yet : answer ≡ false → (q : MarkedPattern) → q ≡ step last (Some c) p true → Later text q next ↔ Later text p k
   not_yet said q e =
       let stepped_is : q ≡ stepped (seen_from text k) text k p true = e ∙ rw (after, here) refl in
       let next_is : next ≡ k + 1 = omega arith in
@@ -125,7 +126,7 @@ module _ (text : List ℕ) (p : Pattern) (k next : ℕ) (last : Option ℕ) (c :
 
 -- the end of the search
 -- there the answer is true exactly where what was to be found is
-pub at_end : (text : List ℕ) (p : Pattern) (k : ℕ) (last : Option ℕ) → Kept (seen_from text) text p k → k ≡ length text → last ≡ before text k → (answer : Bool)
+pub at_end : (text : List ℕ) (p : MarkedPattern) (k : ℕ) (last : Option ℕ) → Kept (seen_from text) text p k → k ≡ length text → last ≡ before text k → (answer : Bool)
     → answer ≡ leaves last None p true → (F : Type 0) → Later text p k ↔ F → IsTrue answer ↔ F
 at_end text p k last kept e after answer is F found =
     let none : slice_get text k ≡ None = slice_get_past text k (omega arith) in

@@ -2,9 +2,10 @@
 use Rattle.std.proofs.Common.{◌≡◌, ℕ, zero, suc, ◌-◌, nat_eq, ◌==◌, Bool, true, false, ◌&&◌, [], Vec, Box, Global, refl, sym, ap, ◌∙◌, true≢false}
 use Rattle.std.proofs.Common.{arith}
 use Rattle.std.proofs.lemmas.Bool.Decides.{nat_tests}
-use Rattle.strkw_regex_core.specs.Tree.{Pattern, empty, class, look, cat, alt, lookbehind, lookahead, start, end, boundary, no_boundary}
-use Rattle.strkw_regex_core.specs.Times.{Times, any_times, some_times, once_at_most, exact_times, least_times, range_times, repetition}
-use Rattle.strkw_regex_core.specs.Times.{quantified_pattern}
+use Rattle.strkw_regex_core.specs.machine.MarkedPattern.{MarkedPattern, empty, class, look, cat, alt, lookbehind, lookahead}
+use Rattle.strkw_regex_core.specs.Tree.{start, end, boundary, no_boundary}
+use Rattle.strkw_regex_core.specs.machine.Times.{Times, any_times, some_times, once_at_most, exact_times, least_times, range_times, repetition}
+use Rattle.strkw_regex_core.specs.machine.Times.{quantified_pattern}
 use Rattle.strkw_regex_core.specs.OneCharLookahead.{is_glance, are_told}
 use Rattle.strkw_regex_core.specs.Program.{is_class, is_empty, glance, program, alternatives}
 use Rattle.strkw_charset.specs.declared.tree.CharSet.{CharSet}
@@ -20,8 +21,8 @@ use Rattle.strkw_charset.proofs.Booleans.{and_true, and_left}
 
 -- an outline stands for what its node does, with the patterns of its children
 by_node : (node : CountedRegex-F CountedRegex) (o : CountedRegex) → roll-CountedRegex node ≡ o
-    → outline_pattern o ≡ outline_node (map-CountedRegex CountedRegex Pattern outline_pattern node)
-by_node node o rolls = ap outline_pattern (sym rolls) ∙ fold-roll-CountedRegex Pattern outline_node node
+    → outline_pattern o ≡ outline_node (map-CountedRegex CountedRegex MarkedPattern outline_pattern node)
+by_node node o rolls = ap outline_pattern (sym rolls) ∙ fold-roll-CountedRegex MarkedPattern outline_node node
 
 -- the empty outline stands for the empty pattern
 pub outlined-Empty : outline_pattern Empty ≡ empty
@@ -81,19 +82,19 @@ pub ruleset plain_shapes =
 pub ruleset shapes = (plain_shapes, outlined-Then, outlined-Or, outlined-Repeated, outlined-Behind, outlined-Ahead)
 
 -- what is repeated is no class
-pub no_class : (t : Times) (p : Pattern) → is_class (quantified_pattern t p) ≡ false
+pub no_class : (t : Times) (p : MarkedPattern) → is_class (quantified_pattern t p) ≡ false
 no_class (exact_times zero) p = refl
 no_class (exact_times (suc n)) p = refl
 no_class _ p = refl
 
 -- and is nothing where it is so with no copies
-pub is_no_copy : (n : ℕ) (p : Pattern) → nat_eq n 0 ≡ is_empty (repetition n p)
+pub is_no_copy : (n : ℕ) (p : MarkedPattern) → nat_eq n 0 ≡ is_empty (repetition n p)
 is_no_copy zero p = refl
 is_no_copy (suc n) p = grind (arith, nat_tests)
 
 -- what may be missing stands among alternatives otherwise than by itself
 -- what is repeated in any other way stands there as by itself
-pub same_beside : (q : Quantifier) (p : Pattern) → (q ≡ ZeroOrOne → ⊥)
+pub same_beside : (q : Quantifier) (p : MarkedPattern) → (q ≡ ZeroOrOne → ⊥)
     → alternatives (quantified_pattern (quantifier_of q) p) ≡ program (quantified_pattern (quantifier_of q) p)
 same_beside ZeroOrOne p h = absurd (h refl)
 same_beside (Exactly zero) p h = refl
@@ -101,12 +102,12 @@ same_beside (Exactly (suc n)) p h = refl
 same_beside _ p h = refl
 
 -- a glance of what is repeated a number of times asks nothing
-no_glance : (n : ℕ) (p : Pattern) → glance (repetition n p) ≡ []
+no_glance : (n : ℕ) (p : MarkedPattern) → glance (repetition n p) ≡ []
 no_glance zero p = refl
 no_glance (suc n) p = no_glance n p
 
 -- nor does one of what is repeated in any way but being missing
-pub repeated_glance : (q : Quantifier) (p : Pattern) → (q ≡ ZeroOrOne → ⊥) → glance (quantified_pattern (quantifier_of q) p) ≡ []
+pub repeated_glance : (q : Quantifier) (p : MarkedPattern) → (q ≡ ZeroOrOne → ⊥) → glance (quantified_pattern (quantifier_of q) p) ≡ []
 repeated_glance ZeroOrMore p h = refl
 repeated_glance OneOrMore p h = refl
 repeated_glance ZeroOrOne p h = absurd (h refl)
@@ -120,7 +121,7 @@ pub no_copy : (n : ℕ) → (suc n == 0) ≡ true → ⊥
 no_copy n h = let some : (suc n == 0) ≡ false = grind (arith, nat_tests) in true≢false (sym h ∙ some)
 
 -- its lookaheads are told
-pub never_told : (t : Times) (p : Pattern) → is_never t ≡ true → are_told (quantified_pattern t p) ≡ true
+pub never_told : (t : Times) (p : MarkedPattern) → is_never t ≡ true → are_told (quantified_pattern t p) ≡ true
 never_told any_times p h = absurd (true≢false (sym h))
 never_told some_times p h = absurd (true≢false (sym h))
 never_told once_at_most p h = absurd (true≢false (sym h))
@@ -132,7 +133,7 @@ never_told (range_times zero (suc m)) p h = absurd (no_copy m h)
 never_told (range_times (suc n) m) p h = absurd (no_copy n (and_left (suc n == 0) _ h))
 
 -- and it is a glance
-pub never_glance : (t : Times) (p : Pattern) → is_never t ≡ true → is_glance (quantified_pattern t p) ≡ true
+pub never_glance : (t : Times) (p : MarkedPattern) → is_never t ≡ true → is_glance (quantified_pattern t p) ≡ true
 never_glance any_times p h = absurd (true≢false (sym h))
 never_glance some_times p h = absurd (true≢false (sym h))
 never_glance once_at_most p h = absurd (true≢false (sym h))
@@ -145,12 +146,12 @@ never_glance (range_times (suc n) m) p h = absurd (no_copy n (and_left (suc n ==
 
 -- where there is a copy
 -- copies of what has its lookaheads told have theirs told
-told_copies : (n : ℕ) (p : Pattern) → are_told p ≡ true → are_told (repetition n p) ≡ true
+told_copies : (n : ℕ) (p : MarkedPattern) → are_told p ≡ true → are_told (repetition n p) ≡ true
 told_copies zero p h = refl
 told_copies (suc n) p h = and_true _ _ h (told_copies n p h)
 
 -- and so has it, repeated in any way
-told_times : (t : Times) (p : Pattern) → are_told p ≡ true → are_told (quantified_pattern t p) ≡ true
+told_times : (t : Times) (p : MarkedPattern) → are_told p ≡ true → are_told (quantified_pattern t p) ≡ true
 told_times any_times p h = h
 told_times some_times p h = h
 told_times once_at_most p h = h
@@ -159,7 +160,7 @@ told_times (least_times n) p h = and_true _ _ (told_copies n p h) h
 told_times (range_times n m) p h = and_true _ _ (told_copies n p h) (told_copies (m - n) (alt empty p) h)
 
 -- and where it has some that is not told, it has, repeated
-untold_times : (t : Times) (p : Pattern) → is_never t ≡ false → are_told p ≡ false → are_told (quantified_pattern t p) ≡ false
+untold_times : (t : Times) (p : MarkedPattern) → is_never t ≡ false → are_told p ≡ false → are_told (quantified_pattern t p) ≡ false
 untold_times any_times p w h = h
 untold_times some_times p w h = h
 untold_times once_at_most p w h = h
@@ -175,7 +176,7 @@ untold_times (range_times (suc n) m) p w h =
     ap (λ (b : Bool). (b && are_told (repetition n p)) && are_told (repetition (m - suc n) (alt empty p))) h
 
 -- so both or none of them have theirs told
-pub same_told : (t : Times) (p : Pattern) → is_never t ≡ false → are_told p ≡ are_told (quantified_pattern t p)
+pub same_told : (t : Times) (p : MarkedPattern) → is_never t ≡ false → are_told p ≡ are_told (quantified_pattern t p)
 same_told t p w = by_test (are_told p) refl
   where
     -- the same by whether it has
@@ -184,12 +185,12 @@ same_told t p w = by_test (are_told p) refl
     by_test false h = h ∙ sym (untold_times t p w h)
 
 -- copies of nothing are a glance
-glance_nothing : (n : ℕ) (p : Pattern) → is_empty p ≡ true → is_glance (repetition n p) ≡ true
+glance_nothing : (n : ℕ) (p : MarkedPattern) → is_empty p ≡ true → is_glance (repetition n p) ≡ true
 glance_nothing zero p h = refl
 glance_nothing (suc n) p h = and_true _ _ h (glance_nothing n p h)
 
 -- and copies of anything else are none
-pub glance_copies : (n : ℕ) (p : Pattern) → (n == 0) ≡ false → is_empty p ≡ is_glance (repetition n p)
+pub glance_copies : (n : ℕ) (p : MarkedPattern) → (n == 0) ≡ false → is_empty p ≡ is_glance (repetition n p)
 glance_copies zero p w = absurd (true≢false w)
 glance_copies (suc n) p w = by_test (is_empty p) refl
   where
@@ -199,7 +200,7 @@ glance_copies (suc n) p w = by_test (is_empty p) refl
     by_test false h = h ∙ sym (ap (λ (b : Bool). b && is_glance (repetition n p)) h)
 
 -- what is repeated in another way is one only where there is no copy
-pub other_glance : (q : Quantifier) (p : Pattern) → (q ≡ ZeroOrOne → ⊥) → ((n : ℕ) → q ≡ Exactly n → ⊥)
+pub other_glance : (q : Quantifier) (p : MarkedPattern) → (q ≡ ZeroOrOne → ⊥) → ((n : ℕ) → q ≡ Exactly n → ⊥)
     → is_never (quantifier_of q) ≡ is_glance (quantified_pattern (quantifier_of q) p)
 other_glance ZeroOrMore p h g = refl
 other_glance OneOrMore p h g = refl

@@ -3,8 +3,8 @@ use Rattle.std.proofs.Common.{◌≡◌, ℕ, zero, suc, ◌+◌, ◌*◌, ◌�
 use Rattle.std.proofs.Common.{◌∙◌, true≢false, arith}
 use Rattle.std.proofs.lemmas.Bool.{leb-true, leb-false}
 use Rattle.std.proofs.lemmas.Bool.Decides.{nat_tests}
-use Rattle.strkw_regex_core.specs.Tree.{Pattern, empty, cat, alt, star, plus, lookbehind, lookahead}
-use Rattle.strkw_regex_core.specs.Times.{repetition}
+use Rattle.strkw_regex_core.specs.machine.MarkedPattern.{MarkedPattern, empty, cat, alt, star, plus, lookbehind, lookahead}
+use Rattle.strkw_regex_core.specs.machine.Times.{repetition}
 use Rattle.strkw_regex_core.specs.Program.{Instruction, other, join, star_end, plus_end, look_end, is_class, is_empty, glance, program, alternatives}
 use Rattle.strkw_regex_core.specs.Size.{steps_of, steps, spread, search_steps, max_steps, max_term_steps}
 use Rattle.strkw_regex_core.specs.OneCharLookahead.{are_told}
@@ -75,11 +75,11 @@ more_steps [] ys = omega arith
 more_steps (i ∷ xs) ys = omega (arith, more_steps xs ys)
 
 -- two patterns one behind the other take the steps of both
-pub cat_steps : (p q : Pattern) → steps (cat p q) ≡ steps p + steps q
+pub cat_steps : (p q : MarkedPattern) → steps (cat p q) ≡ steps p + steps q
 cat_steps p q = more_steps (program p) (program q)
 
 -- two alternatives that are not one instruction take three steps more than what stands for both
-pub alt_steps : (p q : Pattern) → (is_empty p && is_class q) ≡ false
+pub alt_steps : (p q : MarkedPattern) → (is_empty p && is_class q) ≡ false
     → steps (alt p q) ≡ steps_of (alternatives p) + steps q + 3
 alt_steps p q h =
     by_option (λ is. steps_of is ≡ steps_of (alternatives p) + steps q + 3) p q _ _
@@ -87,61 +87,61 @@ alt_steps p q h =
     (omega (arith, more_steps (alternatives p) (other ∷ (program q ++ (join ∷ []))), more_steps (program q) (join ∷ [])))
 
 -- what may be missing takes three steps more, where it is no class
-pub option_steps : (p : Pattern) → is_class p ≡ false → steps (alt empty p) ≡ steps p + 3
+pub option_steps : (p : MarkedPattern) → is_class p ≡ false → steps (alt empty p) ≡ steps p + 3
 option_steps p h = omega (arith, alt_steps empty p h)
 
 -- among alternatives two of them take one step more than what stands for both
-pub beside_steps : (p q : Pattern) → steps_of (alternatives (alt p q)) ≡ steps_of (alternatives p) + steps q + 1
+pub beside_steps : (p q : MarkedPattern) → steps_of (alternatives (alt p q)) ≡ steps_of (alternatives p) + steps q + 1
 beside_steps p q = omega (arith, more_steps (alternatives p) (other ∷ program q))
 
 -- a star takes two steps more than its body, where that is no class
-pub star_steps : (p : Pattern) → is_class p ≡ false → steps (star p) ≡ steps p + 2
+pub star_steps : (p : MarkedPattern) → is_class p ≡ false → steps (star p) ≡ steps p + 2
 star_steps p h =
     by_class (λ is. steps_of is ≡ steps p + 2) p _ _ (λ m n rs e. absurd (true≢false (rw e at h)))
     (omega (arith, more_steps (program p) (star_end ∷ [])))
 
 -- and so does a plus
-pub plus_steps : (p : Pattern) → is_class p ≡ false → steps (plus p) ≡ steps p + 2
+pub plus_steps : (p : MarkedPattern) → is_class p ≡ false → steps (plus p) ≡ steps p + 2
 plus_steps p h =
     by_class (λ is. steps_of is ≡ steps p + 2) p _ _ (λ m n rs e. absurd (true≢false (rw e at h)))
     (omega (arith, more_steps (program p) (plus_end ∷ [])))
 
 -- a lookbehind takes two steps more than what it looks for
-pub behind_steps : (n : Bool) (p : Pattern) → steps (lookbehind n p) ≡ steps p + 2
+pub behind_steps : (n : Bool) (p : MarkedPattern) → steps (lookbehind n p) ≡ steps p + 2
 behind_steps n p = omega (arith, more_steps (program p) (look_end n ∷ []))
 
 -- what is repeated takes so many times its steps
-repeated_steps : (n : ℕ) (p : Pattern) → steps (repetition n p) ≡ n * steps p
+repeated_steps : (n : ℕ) (p : MarkedPattern) → steps (repetition n p) ≡ n * steps p
 repeated_steps zero p = omega arith
 repeated_steps (suc n) p = omega (arith, cat_steps p (repetition n p), repeated_steps n p)
 
 -- and up to the limit
 -- of two patterns one behind the other, from those of each so counted
-pub both_steps : (p q : Pattern) (x y : ℕ) → x ≡ cap_steps (steps p) → y ≡ cap_steps (steps q)
+pub both_steps : (p q : MarkedPattern) (x y : ℕ) → x ≡ cap_steps (steps p) → y ≡ cap_steps (steps q)
     → cap_steps (x + y + 0) ≡ cap_steps (steps (cat p q))
 both_steps p q x y e f = omega (arith, sum_capped (steps p) (steps q) 0 x y e f, cat_steps p q)
 
 -- and of what is repeated
-pub copies_steps : (n : ℕ) (p : Pattern) (x : ℕ) → x ≡ cap_steps (steps p) → cap_steps (n * x) ≡ cap_steps (steps (repetition n p))
+pub copies_steps : (n : ℕ) (p : MarkedPattern) (x : ℕ) → x ≡ cap_steps (steps p) → cap_steps (n * x) ≡ cap_steps (steps (repetition n p))
 copies_steps n p x e =
     ap (λ (y : ℕ). cap_steps (n * y)) e ∙ product_capped n (steps p) ∙ ap cap_steps (sym (repeated_steps n p))
 
 -- a lookahead takes two steps more than a glance of what it looks for
-pub ahead_steps : (n : Bool) (p : Pattern) → steps (lookahead n p) ≡ steps_of (glance p) + 2
+pub ahead_steps : (n : Bool) (p : MarkedPattern) → steps (lookahead n p) ≡ steps_of (glance p) + 2
 ahead_steps n p = omega (arith, more_steps (glance p) (look_end n ∷ []))
 
 -- and a glance of two alternatives three more than both
-pub glance_alt_steps : (p q : Pattern) → steps_of (glance (alt p q)) ≡ steps_of (glance p) + steps_of (glance q) + 3
+pub glance_alt_steps : (p q : MarkedPattern) → steps_of (glance (alt p q)) ≡ steps_of (glance p) + steps_of (glance q) + 3
 glance_alt_steps p q = omega (arith, more_steps (glance p) (other ∷ (glance q ++ (join ∷ []))), more_steps (glance q) (join ∷ []))
 
 -- a glance of what may be missing takes three more than one of it
-pub glance_option_steps : (p : Pattern) → steps_of (glance (alt empty p)) ≡ steps_of (glance p) + 3
+pub glance_option_steps : (p : MarkedPattern) → steps_of (glance (alt empty p)) ≡ steps_of (glance p) + 3
 glance_option_steps p = omega (arith, glance_alt_steps empty p)
 
 -- what has its lookaheads told takes the steps of its program
-pub told_steps : (p : Pattern) → are_told p ≡ true → search_steps p ≡ steps p
+pub told_steps : (p : MarkedPattern) → are_told p ≡ true → search_steps p ≡ steps p
 told_steps p h = ap (λ (b : Bool). if b then steps p else steps (spread p)) h
 
 -- and else those of one with a mark beside what each lookaround looks for
-pub far_steps : (p : Pattern) → are_told p ≡ false → search_steps p ≡ steps (spread p)
+pub far_steps : (p : MarkedPattern) → are_told p ≡ false → search_steps p ≡ steps (spread p)
 far_steps p h = ap (λ (b : Bool). if b then steps p else steps (spread p)) h

@@ -2,14 +2,15 @@
 use Rattle.std.proofs.Common.{◌≡◌, ◌↔◌, ◌⊎◌, ℕ, ◌+◌, ◌≤◌, Bool, true, false, ◌&&◌, ◌||◌, List, Option, Some, None, slice_get, refl, sym, ap, subst}
 use Rattle.std.proofs.Common.{◌∙◌, inl, inr, ⊎_elim, true≢false, arith}
 use Rattle.strkw_charset.specs.declared.tree.CharSet.{CharSet}
-use Rattle.strkw_regex_core.specs.Tree.{Pattern, empty, class, look, cat, alt, star, plus, lookbehind, lookahead}
+use Rattle.strkw_regex_core.specs.machine.MarkedPattern.{MarkedPattern, empty, class, look, cat, alt, star, plus, lookbehind, lookahead}
 use Rattle.strkw_charset.specs.Membership.{differ, is_member}
-use Rattle.strkw_regex_core.specs.Meaning.{Rounds, no_round, a_round, before, Unless, Matches}
+use Rattle.strkw_regex_core.specs.machine.MarkedMeaning.{Rounds, no_round, a_round, Matches}
+use Rattle.strkw_regex_core.specs.Meaning.{before, Unless}
 use Rattle.strkw_regex_core.specs.machine.Positions.{reads, leaves_by, step_by, Rest}
 use Rattle.strkw_charset.proofs.Booleans.{and_true, and_left, and_right, or_case, or_left, or_right}
 
 -- marks mean nothing for what a pattern matches
-pub same_meaning : (see : Pattern → Bool) (text : List ℕ) (b a : Option ℕ) (p : Pattern) (x : Bool)
+pub same_meaning : (see : MarkedPattern → Bool) (text : List ℕ) (b a : Option ℕ) (p : MarkedPattern) (x : Bool)
     → Matches text (step_by see b a p x) ≡ Matches text p
 same_meaning see text b a empty x = refl
 same_meaning see text b a (class m n rs) x = refl
@@ -37,7 +38,7 @@ rounds_forwards R f j i (a_round _ l m s) = omega (arith, f i l m, rounds_forwar
 -- no match ends before it begins
 module _ (text : List ℕ) where
   -- no match of a pattern does
-  pub forwards : (p : Pattern) (i j : ℕ) → Matches text p i j → i ≤ j
+  pub forwards : (p : MarkedPattern) (i j : ℕ) → Matches text p i j → i ≤ j
   forwards empty i j m = omega (arith, m)
   forwards (class m n rs) i j w = omega (arith, w.3)
   forwards (look l) i j m = omega (arith, m.1)
@@ -50,7 +51,7 @@ module _ (text : List ℕ) where
   forwards (lookahead n p) i j m = omega (arith, m.1)
 
   -- nor does a way that goes on from a mark
-  pub rest_forwards : (p : Pattern) (i j : ℕ) → Rest text p i j → i ≤ j
+  pub rest_forwards : (p : MarkedPattern) (i j : ℕ) → Rest text p i j → i ≤ j
   rest_forwards empty i j r = absurd r
   rest_forwards (class m n rs) i j r = omega (arith, r.1)
   rest_forwards (look l) i j r = absurd r
@@ -76,9 +77,9 @@ same_bool false true f g = g refl
 same_bool false false f g = refl
 
 -- what enters more leaves more, and a way that has ended once in a plus may end there again
-module _ (see : Pattern → Bool) (b a : Option ℕ) where
+module _ (see : MarkedPattern → Bool) (b a : Option ℕ) where
   -- a pattern that is left is left too with more entering
-  more_leaves : (p : Pattern) (x y : Bool) → (x ≡ true → y ≡ true) → leaves_by see b a p x ≡ true → leaves_by see b a p y ≡ true
+  more_leaves : (p : MarkedPattern) (x y : Bool) → (x ≡ true → y ≡ true) → leaves_by see b a p x ≡ true → leaves_by see b a p y ≡ true
   more_leaves empty x y f h = f h
   more_leaves (class m n rs) x y f h = h
   more_leaves (look l) x y f h = and_true _ _ (f (and_left x _ h)) (and_right x _ h)
@@ -94,30 +95,30 @@ module _ (see : Pattern → Bool) (b a : Option ℕ) where
   more_leaves (lookahead n p) x y f h = and_true _ _ (f (and_left x _ h)) (and_right x _ h)
 
   -- a pattern is left after what left it enters again only where it was left before
-  once_more : (p : Pattern) (z : Bool) → leaves_by see b a p false ≡ z → leaves_by see b a p z ≡ true → leaves_by see b a p false ≡ true
+  once_more : (p : MarkedPattern) (z : Bool) → leaves_by see b a p false ≡ z → leaves_by see b a p z ≡ true → leaves_by see b a p false ≡ true
   once_more p true e h = e
   once_more p false e h = h
 
   -- where it is left with x and what left it entering, it is left with x alone
-  no_more : (p : Pattern) (x : Bool) → leaves_by see b a p (x || leaves_by see b a p false) ≡ true → leaves_by see b a p x ≡ true
+  no_more : (p : MarkedPattern) (x : Bool) → leaves_by see b a p (x || leaves_by see b a p false) ≡ true → leaves_by see b a p x ≡ true
   no_more p true h = h
   no_more p false h = once_more p (leaves_by see b a p false) refl h
 
   -- it is left alike with x entering alone and with x and what left it
-  pub plus_leaves : (p : Pattern) (x : Bool) → leaves_by see b a p x ≡ leaves_by see b a p (x || leaves_by see b a p false)
+  pub plus_leaves : (p : MarkedPattern) (x : Bool) → leaves_by see b a p x ≡ leaves_by see b a p (x || leaves_by see b a p false)
   plus_leaves p x = same_bool _ _ (more_leaves p x (x || leaves_by see b a p false) (or_left x _)) (no_more p x)
 
-module _ (see : Pattern → Bool) (text : List ℕ) (i : ℕ) where
+module _ (see : MarkedPattern → Bool) (text : List ℕ) (i : ℕ) where
   -- the marks after the character at i, and whether a way ends here
-  abbrev pub left : Pattern → Bool → Bool
+  abbrev pub left : MarkedPattern → Bool → Bool
   left = leaves_by see (before text i) (slice_get text i)
 
   -- the pattern with the marks after that character
-  abbrev pub stepped : Pattern → Bool → Pattern
+  abbrev pub stepped : MarkedPattern → Bool → MarkedPattern
   stepped = step_by see (before text i) (slice_get text i)
 
   -- each lookbehind and lookahead in the pattern says here what is so
-  abbrev pub Says : Pattern → Type 0
+  abbrev pub Says : MarkedPattern → Type 0
   Says empty = Unit {0}
   Says (class m n rs) = Unit {0}
   Says (look l) = Unit {0}
@@ -129,27 +130,27 @@ module _ (see : Pattern → Bool) (text : List ℕ) (i : ℕ) where
   Says (lookahead n p) = (see p ≡ true) ↔ ((k : ℕ) × Matches text p i k)
 
   -- the ways through the pattern that end at j: from a mark, or from here where x holds
-  abbrev pub Goes : Pattern → Bool → ℕ → Type 0
+  abbrev pub Goes : MarkedPattern → Bool → ℕ → Type 0
   Goes p x j = Rest text p i j ⊎ ((x ≡ true) × Matches text p i j)
 
   -- they end here, or go on from a mark at the next place
-  abbrev pub Went : Pattern → Bool → ℕ → Type 0
+  abbrev pub Went : MarkedPattern → Bool → ℕ → Type 0
   Went p x j = ((left p x ≡ true) × (i ≡ j)) ⊎ Rest text (stepped p x) (i + 1) j
 
   -- what the pattern after a step matches is what it matches
-  to_stepped : (q : Pattern) (y : Bool) (l j : ℕ) → Matches text q l j → Matches text (stepped q y) l j
+  to_stepped : (q : MarkedPattern) (y : Bool) (l j : ℕ) → Matches text q l j → Matches text (stepped q y) l j
   to_stepped q y l j m = subst (λ (R : ℕ → ℕ → Type 0). R l j) (sym (same_meaning see text (before text i) (slice_get text i) q y)) m
 
   -- and back
-  from_stepped : (q : Pattern) (y : Bool) (l j : ℕ) → Matches text (stepped q y) l j → Matches text q l j
+  from_stepped : (q : MarkedPattern) (y : Bool) (l j : ℕ) → Matches text (stepped q y) l j → Matches text q l j
   from_stepped q y l j m = subst (λ (R : ℕ → ℕ → Type 0). R l j) (same_meaning see text (before text i) (slice_get text i) q y) m
 
   -- the same of rounds of it
-  rounds_to_stepped : (q : Pattern) (y : Bool) (l j : ℕ) → Rounds (Matches text q) j l → Rounds (Matches text (stepped q y)) j l
+  rounds_to_stepped : (q : MarkedPattern) (y : Bool) (l j : ℕ) → Rounds (Matches text q) j l → Rounds (Matches text (stepped q y)) j l
   rounds_to_stepped q y l j m = subst (λ (R : ℕ → ℕ → Type 0). Rounds R j l) (sym (same_meaning see text (before text i) (slice_get text i) q y)) m
 
   -- and back
-  rounds_from_stepped : (q : Pattern) (y : Bool) (l j : ℕ) → Rounds (Matches text (stepped q y)) j l → Rounds (Matches text q) j l
+  rounds_from_stepped : (q : MarkedPattern) (y : Bool) (l j : ℕ) → Rounds (Matches text (stepped q y)) j l → Rounds (Matches text q) j l
   rounds_from_stepped q y l j m = subst (λ (R : ℕ → ℕ → Type 0). Rounds R j l) (same_meaning see text (before text i) (slice_get text i) q y) m
 
   -- a class that enters and reads the character here
@@ -171,7 +172,7 @@ module _ (see : Pattern → Bool) (text : List ℕ) (i : ℕ) where
 
   -- where rounds begin at this place
   -- they end here, or go on in the body from a mark at the next place, with rounds behind
-  rounds_go : (p : Pattern) (y : Bool) (j : ℕ) → ((l : ℕ) → Goes p y l → Went p y l) → y ≡ true → (k : ℕ) → k ≡ i
+  rounds_go : (p : MarkedPattern) (y : Bool) (j : ℕ) → ((l : ℕ) → Goes p y l → Went p y l) → y ≡ true → (k : ℕ) → k ≡ i
       → Rounds (Matches text p) j k
       → ((y ≡ true) × (i ≡ j)) ⊎ ((l : ℕ) × Rest text (stepped p y) (i + 1) l × Rounds (Matches text p) j l)
   rounds_go p y j ih yt k e (no_round _ d) = inl (yt, sym e ∙ d)
@@ -180,44 +181,44 @@ module _ (see : Pattern → Bool) (text : List ℕ) (i : ℕ) where
       (ih l (inr (yt, subst (λ (z : ℕ). Matches text p z l) e m)))
 
   -- a way that ends in the body of a loop shows that the body is entered
-  entered : (p : Pattern) (x : Bool) (y : Bool) → y ≡ (x || left p false) → left p y ≡ true → y ≡ true
+  entered : (p : MarkedPattern) (x : Bool) (y : Bool) → y ≡ (x || left p false) → left p y ≡ true → y ≡ true
   entered p x true e h = refl
   entered p x false e h = e ∙ or_right x _ h
 
   -- rounds behind a mark in a loop's body may be of the body after a step
-  star_went : (p : Pattern) (y : Bool) (j : ℕ)
+  star_went : (p : MarkedPattern) (y : Bool) (j : ℕ)
       → ((y ≡ true) × (i ≡ j)) ⊎ ((l : ℕ) × Rest text (stepped p y) (i + 1) l × Rounds (Matches text p) j l)
       → ((y ≡ true) × (i ≡ j)) ⊎ ((l : ℕ) × Rest text (stepped p y) (i + 1) l × Rounds (Matches text (stepped p y)) j l)
   star_went p y j (inl here) = inl here
   star_went p y j (inr (l, r, s)) = inr (l, r, rounds_to_stepped p y l j s)
 
   -- where a way went through the body and rounds follow, they end here or go on from a mark
-  star_goes : (p : Pattern) (x y : Bool) (j l : ℕ) → y ≡ (x || left p false) → ((n : ℕ) → Goes p y n → Went p y n)
+  star_goes : (p : MarkedPattern) (x y : Bool) (j l : ℕ) → y ≡ (x || left p false) → ((n : ℕ) → Goes p y n → Went p y n)
       → Went p y l → Rounds (Matches text p) j l
       → ((y ≡ true) × (i ≡ j)) ⊎ ((n : ℕ) × Rest text (stepped p y) (i + 1) n × Rounds (Matches text p) j n)
   star_goes p x y j l e ih (inl (h, d)) s = rounds_go p y j ih (entered p x y e h) l (sym d) s
   star_goes p x y j l e ih (inr r) s = inr (l, r, s)
 
   -- where a way went through the first and the second matches behind it, one went through both
-  cat_goes : (p q : Pattern) (x : Bool) (j l : ℕ) → Went p x l → (Goes q (left p x) j → Went q (left p x) j) → Matches text q l j
+  cat_goes : (p q : MarkedPattern) (x : Bool) (j l : ℕ) → Went p x l → (Goes q (left p x) j → Went q (left p x) j) → Matches text q l j
       → Went (cat p q) x j
   cat_goes p q x j l (inl (h, d)) ih m =
       ⊎_elim (λ here. inl here) (λ rest. inr (inr rest)) (ih (inr (h, subst (λ (z : ℕ). Matches text q z j) (sym d) m)))
   cat_goes p q x j l (inr r) ih m = inr (inl (l, r, to_stepped q (left p x) l j m))
 
   -- a way that went through the first alternative went through the choice
-  alt_left : (p q : Pattern) (x : Bool) (j : ℕ) → Went p x j → Went (alt p q) x j
+  alt_left : (p q : MarkedPattern) (x : Bool) (j : ℕ) → Went p x j → Went (alt p q) x j
   alt_left p q x j (inl (h, d)) = inl (or_left _ _ h, d)
   alt_left p q x j (inr r) = inr (inl r)
 
   -- and one that went through the second
-  alt_right : (p q : Pattern) (x : Bool) (j : ℕ) → Went q x j → Went (alt p q) x j
+  alt_right : (p q : MarkedPattern) (x : Bool) (j : ℕ) → Went q x j → Went (alt p q) x j
   alt_right p q x j (inl (h, d)) = inl (or_right _ _ h, d)
   alt_right p q x j (inr r) = inr (inr r)
 
   -- the first round of a plus goes to l
   -- it and the rounds behind it end here, or go on from a mark at the next place
-  plus_goes : (p : Pattern) (x y : Bool) (j l : ℕ) → y ≡ (x || left p false) → ((n : ℕ) → Goes p y n → Went p y n)
+  plus_goes : (p : MarkedPattern) (x y : Bool) (j l : ℕ) → y ≡ (x || left p false) → ((n : ℕ) → Goes p y n → Went p y n)
       → Went p y l → Rounds (Matches text p) j l
       → ((left p y ≡ true) × (i ≡ j)) ⊎ ((n : ℕ) × Rest text (stepped p y) (i + 1) n × Rounds (Matches text p) j n)
   plus_goes p x y j l e ih (inl (h, d)) s =
@@ -225,7 +226,7 @@ module _ (see : Pattern → Bool) (text : List ℕ) (i : ℕ) where
   plus_goes p x y j l e ih (inr r) s = inr (l, r, s)
 
   -- rounds behind a mark in the body of a plus may be of the body after a step
-  plus_went : (p : Pattern) (y : Bool) (j : ℕ)
+  plus_went : (p : MarkedPattern) (y : Bool) (j : ℕ)
       → ((left p y ≡ true) × (i ≡ j)) ⊎ ((l : ℕ) × Rest text (stepped p y) (i + 1) l × Rounds (Matches text p) j l)
       → ((left p y ≡ true) × (i ≡ j)) ⊎ ((l : ℕ) × Rest text (stepped p y) (i + 1) l × Rounds (Matches text (stepped p y)) j l)
   plus_went p y j (inl here) = inl here
@@ -233,7 +234,7 @@ module _ (see : Pattern → Bool) (text : List ℕ) (i : ℕ) where
 
   -- the law, forwards
   -- ways through a pattern to a place end here, or go on from its marks after a step
-  pub goes_on : (p : Pattern) → Says p → (x : Bool) (j : ℕ) → Goes p x j → Went p x j
+  pub goes_on : (p : MarkedPattern) → Says p → (x : Bool) (j : ℕ) → Goes p x j → Went p x j
   goes_on empty u x j (inl r) = absurd r
   goes_on empty u x j (inr m) = inl m
   goes_on (class m n rs) u x j (inl r) = inl r
@@ -264,59 +265,59 @@ module _ (see : Pattern → Bool) (text : List ℕ) (i : ℕ) where
   goes_on (lookahead n p) u x j (inr (xt, (h, e))) = inl (and_true _ _ xt ((unless_differs n _ _ u).1 h), e)
 
   -- what enters a loop's body came from without or from a mark within
-  from_body : (p : Pattern) (x : Bool) → (Went p false i → Goes p false i) → (x || left p false) ≡ true
+  from_body : (p : MarkedPattern) (x : Bool) → (Went p false i → Goes p false i) → (x || left p false) ≡ true
       → (x ≡ true) ⊎ Rest text p i i
   from_body p true back h = inl refl
   from_body p false back h =
       ⊎_elim (λ r. inr r) (λ none. absurd (true≢false (sym none.0))) (back (inl (h, refl)))
 
   -- rounds from here go through a star that is entered, or in whose body a way ends here
-  star_here : (p : Pattern) (x : Bool) (j : ℕ) → Rounds (Matches text p) j i → (x ≡ true) ⊎ Rest text p i i → Goes (star p) x j
+  star_here : (p : MarkedPattern) (x : Bool) (j : ℕ) → Rounds (Matches text p) j i → (x ≡ true) ⊎ Rest text p i i → Goes (star p) x j
   star_here p x j s (inl xt) = inr (xt, s)
   star_here p x j s (inr r) = inl (i, r, s)
 
   -- a way through the body of a star, with rounds behind it, goes through the star
-  star_back : (p : Pattern) (x : Bool) (j l : ℕ) → (Went p false i → Goes p false i) → Goes p (x || left p false) l
+  star_back : (p : MarkedPattern) (x : Bool) (j l : ℕ) → (Went p false i → Goes p false i) → Goes p (x || left p false) l
       → Rounds (Matches text p) j l → Goes (star p) x j
   star_back p x j l back (inl r) s = inl (l, r, s)
   star_back p x j l back (inr (yt, m)) s = star_here p x j (a_round i l m s) (from_body p x back yt)
 
   -- a round and more from here go through a plus that is entered, or in whose body a way ends here
-  plus_here : (p : Pattern) (x : Bool) (j l : ℕ) → Matches text p i l → Rounds (Matches text p) j l → (x ≡ true) ⊎ Rest text p i i
+  plus_here : (p : MarkedPattern) (x : Bool) (j l : ℕ) → Matches text p i l → Rounds (Matches text p) j l → (x ≡ true) ⊎ Rest text p i i
       → Goes (plus p) x j
   plus_here p x j l m s (inl xt) = inr (xt, (l, m, s))
   plus_here p x j l m s (inr r) = inl (i, r, a_round i l m s)
 
   -- a way through the body of a plus, with rounds behind it, goes through the plus
-  plus_back : (p : Pattern) (x : Bool) (j l : ℕ) → (Went p false i → Goes p false i) → Goes p (x || left p false) l
+  plus_back : (p : MarkedPattern) (x : Bool) (j l : ℕ) → (Went p false i → Goes p false i) → Goes p (x || left p false) l
       → Rounds (Matches text p) j l → Goes (plus p) x j
   plus_back p x j l back (inl r) s = inl (l, r, s)
   plus_back p x j l back (inr (yt, m)) s = plus_here p x j l m s (from_body p x back yt)
 
   -- a way through the second, entered by what leaves the first, goes through both
-  cat_back : (p q : Pattern) (x : Bool) (j : ℕ) → (Went p x i → Goes p x i) → Goes q (left p x) j → Goes (cat p q) x j
+  cat_back : (p q : MarkedPattern) (x : Bool) (j : ℕ) → (Went p x i → Goes p x i) → Goes q (left p x) j → Goes (cat p q) x j
   cat_back p q x j back (inl r) = inl (inr r)
   cat_back p q x j back (inr (h, m)) =
       ⊎_elim (λ r. inl (inl (i, r, m))) (λ found. inr (found.0, (i, found.1, m))) (back (inl (h, refl)))
 
   -- a way through the first, with a match of the second behind it, goes through both
-  cat_forth : (p q : Pattern) (x : Bool) (j l : ℕ) → Goes p x l → Matches text q l j → Goes (cat p q) x j
+  cat_forth : (p q : MarkedPattern) (x : Bool) (j l : ℕ) → Goes p x l → Matches text q l j → Goes (cat p q) x j
   cat_forth p q x j l (inl r) m = inl (inl (l, r, m))
   cat_forth p q x j l (inr (xt, n)) m = inr (xt, (l, n, m))
 
   -- a way through the first alternative goes through the choice
-  alt_back_left : (p q : Pattern) (x : Bool) (j : ℕ) → Goes p x j → Goes (alt p q) x j
+  alt_back_left : (p q : MarkedPattern) (x : Bool) (j : ℕ) → Goes p x j → Goes (alt p q) x j
   alt_back_left p q x j (inl r) = inl (inl r)
   alt_back_left p q x j (inr (xt, m)) = inr (xt, inl m)
 
   -- and one through the second
-  alt_back_right : (p q : Pattern) (x : Bool) (j : ℕ) → Goes q x j → Goes (alt p q) x j
+  alt_back_right : (p q : MarkedPattern) (x : Bool) (j : ℕ) → Goes q x j → Goes (alt p q) x j
   alt_back_right p q x j (inl r) = inl (inr r)
   alt_back_right p q x j (inr (xt, m)) = inr (xt, inr m)
 
   -- the law, backwards
   -- what ends here, or goes on from a mark after a step, is a way through the pattern
-  pub goes_back : (p : Pattern) → Says p → (x : Bool) (j : ℕ) → Went p x j → Goes p x j
+  pub goes_back : (p : MarkedPattern) → Says p → (x : Bool) (j : ℕ) → Went p x j → Goes p x j
   goes_back empty u x j (inl m) = inr m
   goes_back empty u x j (inr r) = absurd r
   goes_back (class m n rs) u x j (inl r) = inl r
@@ -344,7 +345,7 @@ module _ (see : Pattern → Bool) (text : List ℕ) (i : ℕ) where
   goes_back (lookahead n p) u x j (inr r) = absurd r
 
   -- at the end of the text no mark is left
-  pub none_after_end : slice_get text i ≡ None → (p : Pattern) (x : Bool) (k j : ℕ) → Rest text (stepped p x) k j → ⊥
+  pub none_after_end : slice_get text i ≡ None → (p : MarkedPattern) (x : Bool) (k j : ℕ) → Rest text (stepped p x) k j → ⊥
   none_after_end e empty x k j r = r
   none_after_end e (class m n rs) x k j r = no_reading e n rs x r.0
     where

@@ -7,7 +7,7 @@ use Rattle.std.specs.Str.{is_utf8}
 use Rattle.std.proofs.lemmas.List.{reverse-append, take_at}
 use Rattle.std.proofs.lemmas.Str.{chars-nil, chars-append, chars_past_char, IsUtf8-encode, IsUtf8-take, IsUtf8-past_char, IsCharBoundary-at_seam}
 use Rattle.std.proofs.lemmas.Str.{is_utf8-from_IsUtf8, IsUtf8-from_is_utf8}
-use Rattle.strkw_regex_core.specs.Mirror.{along}
+use Rattle.strkw_regex_core.specs.machine.Mirror.{along}
 
 -- a text of no bytes has no characters
 pub no_chars : (bytes : List ℕ) → length bytes ≡ 0 → chars bytes ≡ []

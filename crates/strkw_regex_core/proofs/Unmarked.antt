@@ -1,21 +1,21 @@
 -- The pattern of a tree has no marks, nor have its parts.
 use Rattle.std.proofs.Common.{◌≡◌, ℕ, zero, suc, Bool, true, false, ◌||◌, refl, if◌then◌else◌}
-use Rattle.strkw_regex_core.specs.Tree.{Pattern, empty, class, look, cat, alt, star, plus, lookbehind, lookahead}
-use Rattle.strkw_regex_core.specs.Times.{Times, any_times, some_times, once_at_most, exact_times, least_times, range_times, repetition}
-use Rattle.strkw_regex_core.specs.Times.{quantified_pattern}
+use Rattle.strkw_regex_core.specs.machine.MarkedPattern.{MarkedPattern, empty, class, look, cat, alt, star, plus, lookbehind, lookahead}
+use Rattle.strkw_regex_core.specs.machine.Times.{Times, any_times, some_times, once_at_most, exact_times, least_times, range_times, repetition}
+use Rattle.strkw_regex_core.specs.machine.Times.{quantified_pattern}
 use Rattle.strkw_regex_core.specs.LeadingLookahead.{lead, is_apart_behind, rest}
 use Rattle.strkw_regex_core.specs.Program.{is_empty}
-use Rattle.strkw_regex_core.specs.Mirror.{mirror, mirror_if, is_backward, target}
+use Rattle.strkw_regex_core.specs.machine.Mirror.{mirror, mirror_if, is_backward, target}
 use Rattle.strkw_regex_core.specs.machine.Positions.{is_clean, is_unmarked}
 use Rattle.strkw_charset.proofs.Booleans.{and_true, and_left, and_right}
 
 -- a pattern without marks has none where it is repeated
-unmarked_repeated : (n : ℕ) (p : Pattern) → is_unmarked p ≡ true → is_unmarked (repetition n p) ≡ true
+unmarked_repeated : (n : ℕ) (p : MarkedPattern) → is_unmarked p ≡ true → is_unmarked (repetition n p) ≡ true
 unmarked_repeated zero p h = refl
 unmarked_repeated (suc n) p h = and_true _ _ h (unmarked_repeated n p h)
 
 -- and none under a quantifier
-pub unmarked_times : (t : Times) (p : Pattern) → is_unmarked p ≡ true → is_unmarked (quantified_pattern t p) ≡ true
+pub unmarked_times : (t : Times) (p : MarkedPattern) → is_unmarked p ≡ true → is_unmarked (quantified_pattern t p) ≡ true
 unmarked_times any_times p h = h
 unmarked_times some_times p h = h
 unmarked_times once_at_most p h = h
@@ -25,7 +25,7 @@ unmarked_times (range_times n m) p h = and_true _ _ (unmarked_repeated n p h) (u
 
 -- parts
 -- what has no marks has none outside lookaheads
-pub clean_unmarked : (p : Pattern) → is_unmarked p ≡ true → is_clean p ≡ true
+pub clean_unmarked : (p : MarkedPattern) → is_unmarked p ≡ true → is_clean p ≡ true
 clean_unmarked empty h = refl
 clean_unmarked (class m n rs) h = h
 clean_unmarked (look l) h = refl
@@ -37,7 +37,7 @@ clean_unmarked (lookbehind n p) h = clean_unmarked p h
 clean_unmarked (lookahead n p) h = refl
 
 -- nor has the rest of it
-pub rest_unmarked : (p : Pattern) → is_unmarked p ≡ true → is_unmarked (rest p) ≡ true
+pub rest_unmarked : (p : MarkedPattern) → is_unmarked p ≡ true → is_unmarked (rest p) ≡ true
 rest_unmarked empty h = refl
 rest_unmarked (class m n rs) h = h
 rest_unmarked (look l) h = refl
@@ -54,7 +54,7 @@ rest_unmarked (lookbehind n p) h = h
 rest_unmarked (lookahead n p) h = h
 
 -- nor has its mirror
-pub mirror_unmarked : (p : Pattern) → is_unmarked p ≡ true → is_unmarked (mirror p) ≡ true
+pub mirror_unmarked : (p : MarkedPattern) → is_unmarked p ≡ true → is_unmarked (mirror p) ≡ true
 mirror_unmarked empty h = refl
 mirror_unmarked (class m n rs) h = h
 mirror_unmarked (look l) h = refl
@@ -73,10 +73,10 @@ mirror_unmarked (lookbehind n p) h = mirror_unmarked p h
 mirror_unmarked (lookahead n p) h = mirror_unmarked p h
 
 -- so it has none, looked for from either end
-pub facing_unmarked : (b : Bool) (p : Pattern) → is_unmarked p ≡ true → is_unmarked (mirror_if b p) ≡ true
+pub facing_unmarked : (b : Bool) (p : MarkedPattern) → is_unmarked p ≡ true → is_unmarked (mirror_if b p) ≡ true
 facing_unmarked false p h = h
 facing_unmarked true p h = mirror_unmarked p h
 
 -- and what is looked for of it has none
-pub sought_unmarked : (p : Pattern) → is_unmarked p ≡ true → is_unmarked (target p) ≡ true
+pub sought_unmarked : (p : MarkedPattern) → is_unmarked p ≡ true → is_unmarked (target p) ≡ true
 sought_unmarked p h = facing_unmarked (is_backward p) p h

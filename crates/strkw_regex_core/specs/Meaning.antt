@@ -1,19 +1,19 @@
 -- What a pattern means (ECMA-262 2024, section 22.2.2): it matches a text from place i to place j.
--- A place is the number of characters before it. The standard's RepeatMatcher refuses a round that
--- reads nothing, which changes no answer. CompileAssertion (section 22.2.2.4) runs the pattern of a
--- lookbehind backward from its place: where nothing is captured, it then matches up to there from
--- some place.
-use Rattle.std.specs.Prelude.{◌≡◌, ℕ, ◌+◌, ◌-◌, ◌≤◌, ◌==◌, Bool, true, false, not, ◌⊎◌, List}
-use Rattle.std.specs.Prelude.{length, Option, Some, None, if◌then◌else◌, slice_get}
+-- A place is the number of characters before it. By the law `matchers_agree` this is what the
+-- matchers of the standard answer (`specs/Matchers.antt`): that RepeatMatcher refuses a round that
+-- reads nothing where none is required, and that CompileAssertion runs the pattern of a lookbehind
+-- backward from its place, changes no answer.
+use Rattle.std.specs.Prelude.{◌≡◌, ℕ, zero, suc, ◌+◌, ◌-◌, ◌≤◌, ◌==◌, Bool, true, false, not, ◌⊎◌}
+use Rattle.std.specs.Prelude.{List, length, Option, Some, None, IfSome, if◌then◌else◌, slice_get}
 use Rattle.strkw_regex_core.specs.Tree.{Look, start, end, boundary, no_boundary, Pattern, empty}
-use Rattle.strkw_regex_core.specs.Tree.{class, look, cat, alt, star, plus, lookbehind, lookahead}
+use Rattle.strkw_regex_core.specs.Tree.{class, look, cat, alt, repeat, lookbehind, lookahead}
 use Rattle.strkw_charset.specs.Membership.{in_sets, differ, is_member}
 use Rattle.strkw_charset.specs.Sets.{word_characters}
 
--- so many rounds of R as it takes, none among them, lead from the last number to j
-pub data Rounds (R : ℕ → ℕ → Type 0) (j : ℕ) : ℕ → Type 0 where
-  no_round : (i : ℕ) → i ≡ j → Rounds R j i
-  a_round : (i l : ℕ) → R i l → Rounds R j l → Rounds R j i
+-- so many rounds of R lead from i to j
+abbrev pub Rounds : (ℕ → ℕ → Type 0) → ℕ → ℕ → ℕ → Type 0
+Rounds R zero i j = i ≡ j
+Rounds R (suc n) i j = (l : ℕ) × R i l × Rounds R n l j
 
 -- the character before a place
 abbrev pub before : List ℕ → ℕ → Option ℕ
@@ -42,13 +42,13 @@ Unless true A = A → ⊥
 
 abbrev pub Matches : List ℕ → Pattern → ℕ → ℕ → Type 0
 Matches text empty i j = i ≡ j
-Matches text (class m n rs) i j = (c : ℕ) × (slice_get text i ≡ Some c) × (is_member n rs c ≡ true)
+Matches text (class n rs) i j = (c : ℕ) × (slice_get text i ≡ Some c) × (is_member n rs c ≡ true)
     × (j ≡ i + 1)
 Matches text (look l) i j = (holds l (before text i) (slice_get text i) ≡ true) × (i ≡ j)
 Matches text (cat p q) i j = (l : ℕ) × Matches text p i l × Matches text q l j
 Matches text (alt p q) i j = Matches text p i j ⊎ Matches text q i j
-Matches text (star p) i j = Rounds (Matches text p) j i
-Matches text (plus p) i j = (l : ℕ) × Matches text p i l × Rounds (Matches text p) j l
+Matches text (repeat min max p) i j = (n : ℕ) × (min ≤ n) × IfSome max (λ m. n ≤ m)
+    × Rounds (Matches text p) n i j
 Matches text (lookbehind n p) i j = Unless n ((k : ℕ) × Matches text p k i) × (i ≡ j)
 Matches text (lookahead n p) i j = Unless n ((k : ℕ) × Matches text p i k) × (i ≡ j)
 

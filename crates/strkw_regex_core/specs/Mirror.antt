@@ -1,10 +1,7 @@
 -- Patterns from the end of a text on: what a pattern matches in a text, its mirror matches in the
 -- text turned round. There each lookahead is a lookbehind.
-use Rattle.std.specs.Prelude.{List, ℕ, reverse, Bool, true, false, not, ◌&&◌, ◌||◌, if◌then◌else◌}
 use Rattle.strkw_regex_core.specs.Tree.{Look, start, end, boundary, no_boundary, Pattern, empty}
-use Rattle.strkw_regex_core.specs.Tree.{class, look, cat, alt, star, plus, lookbehind, lookahead}
-use Rattle.strkw_regex_core.specs.OneCharLookahead.{are_told}
-use Rattle.strkw_regex_core.specs.Program.{is_empty}
+use Rattle.strkw_regex_core.specs.Tree.{class, look, cat, alt, repeat, lookbehind, lookahead}
 
 abbrev pub mirror_look : Look → Look
 mirror_look start = end
@@ -12,36 +9,12 @@ mirror_look end = start
 mirror_look boundary = boundary
 mirror_look no_boundary = no_boundary
 
--- what stands beside nothing stays on its side of it, so that one term stays one
 abbrev pub mirror : Pattern → Pattern
 mirror empty = empty
-mirror (class m n rs) = class m n rs
+mirror (class n rs) = class n rs
 mirror (look l) = look (mirror_look l)
-mirror (cat p q) =
-    if is_empty p || is_empty q then cat (mirror p) (mirror q) else cat (mirror q) (mirror p)
+mirror (cat p q) = cat (mirror q) (mirror p)
 mirror (alt p q) = alt (mirror p) (mirror q)
-mirror (star p) = star (mirror p)
-mirror (plus p) = plus (mirror p)
+mirror (repeat min max p) = repeat min max (mirror p)
 mirror (lookbehind n p) = lookahead n (mirror p)
 mirror (lookahead n p) = lookbehind n (mirror p)
-
--- as they are, or from the end
-abbrev pub mirror_if : Bool → Pattern → Pattern
-mirror_if false p = p
-mirror_if true p = mirror p
-
-abbrev pub along : Bool → List ℕ → List ℕ
-along false text = text
-along true text = reverse text
-
--- the search goes from the end of the text on, since only from there the next character tells what
--- each lookahead looks for
-abbrev pub is_backward : Pattern → Bool
-is_backward p = not (are_told p) && are_told (mirror p)
-
--- what is looked for then, and in which text
-abbrev pub target : Pattern → Pattern
-target p = mirror_if (is_backward p) p
-
-abbrev pub sought_in : Pattern → List ℕ → List ℕ
-sought_in p = along (is_backward p)

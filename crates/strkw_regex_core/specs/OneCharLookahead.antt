@@ -1,11 +1,12 @@
 -- Which lookaheads are taken where they stand: those that are told by the next character.
 use Rattle.std.specs.Prelude.{Bool, true, false, ◌&&◌}
-use Rattle.strkw_regex_core.specs.Tree.{Pattern, empty, class, look, cat, alt, star, plus}
-use Rattle.strkw_regex_core.specs.Tree.{lookbehind, lookahead}
+use Rattle.strkw_regex_core.specs.machine.MarkedPattern.{MarkedPattern, empty, class, look, cat}
+use Rattle.strkw_regex_core.specs.machine.MarkedPattern.{alt, star, plus}
+use Rattle.strkw_regex_core.specs.machine.MarkedPattern.{lookbehind, lookahead}
 use Rattle.strkw_regex_core.specs.Program.{is_empty}
 
 -- nothing, one character of a class, or an assertion; or alternatives of these
-abbrev pub is_glance : Pattern → Bool
+abbrev pub is_glance : MarkedPattern → Bool
 is_glance empty = true
 is_glance (class m n rs) = true
 is_glance (look l) = true
@@ -17,7 +18,7 @@ is_glance (lookbehind n p) = false
 is_glance (lookahead n p) = is_glance p
 
 -- each lookahead of the pattern is told so
-abbrev pub are_told : Pattern → Bool
+abbrev pub are_told : MarkedPattern → Bool
 are_told empty = true
 are_told (class m n rs) = true
 are_told (look l) = true

@@ -1,8 +1,10 @@
 -- The program of a pattern: instructions one behind another, with no tree in them.
 use Rattle.std.specs.Prelude.{ℕ, zero, suc, ◌+◌, Bool, true, false, ◌||◌, List, [], ◌∷◌, ◌++◌}
 use Rattle.strkw_charset.specs.declared.tree.CharSet.{CharSet}
-use Rattle.strkw_regex_core.specs.Tree.{Look, start, end, boundary, no_boundary, Pattern, empty}
-use Rattle.strkw_regex_core.specs.Tree.{class, look, cat, alt, star, plus, lookbehind, lookahead}
+use Rattle.strkw_regex_core.specs.Tree.{Look, start, end, boundary, no_boundary}
+use Rattle.strkw_regex_core.specs.machine.MarkedPattern.{MarkedPattern, empty}
+use Rattle.strkw_regex_core.specs.machine.MarkedPattern.{class, look, cat, alt, star, plus}
+use Rattle.strkw_regex_core.specs.machine.MarkedPattern.{lookbehind, lookahead}
 
 pub data Instruction : Type 0 where
   -- One character of a class, which is negated or not. Where the first holds, once or more; where
@@ -19,24 +21,24 @@ pub data Instruction : Type 0 where
   look_begin look_end : Bool → Instruction
 
 -- of a class the first, of any other pattern the second
-abbrev pub if_class : {A : Type 0} → Pattern → (Bool → List CharSet → A) → A → A
+abbrev pub if_class : {A : Type 0} → MarkedPattern → (Bool → List CharSet → A) → A → A
 if_class (class m n rs) f x = f n rs
 if_class p f x = x
 
 -- of two alternatives: where nothing or a class may stand, the first
-abbrev pub if_option : {A : Type 0} → Pattern → Pattern → (Bool → List CharSet → A) → A → A
+abbrev pub if_option : {A : Type 0} → MarkedPattern → MarkedPattern → (Bool → List CharSet → A) → A → A
 if_option empty q f x = if_class q f x
 if_option p q f x = x
 
-abbrev pub is_class : Pattern → Bool
+abbrev pub is_class : MarkedPattern → Bool
 is_class p = if_class p (λ n rs. true) false
 
-abbrev pub is_empty : Pattern → Bool
+abbrev pub is_empty : MarkedPattern → Bool
 is_empty empty = true
 is_empty p = false
 
 -- of what a lookahead looks for, where the next character tells it (`is_glance`)
-abbrev pub glance : Pattern → List Instruction
+abbrev pub glance : MarkedPattern → List Instruction
 glance (class m n rs) = peek n rs ∷ []
 glance (look l) = assert l ∷ []
 glance (cat p q) = glance q
@@ -46,7 +48,7 @@ glance p = []
 
 -- A class that is repeated, or that may be missing, is one instruction.
 abbrev mutual
-  pub program : Pattern → List Instruction
+  pub program : MarkedPattern → List Instruction
   program empty = []
   program (class m n rs) = read false false n rs ∷ []
   program (look l) = assert l ∷ []
@@ -62,7 +64,7 @@ abbrev mutual
   program (lookahead n p) = look_begin n ∷ (glance p ++ (look_end n ∷ []))
 
   -- the alternatives of more than two stand side by side
-  pub alternatives : Pattern → List Instruction
+  pub alternatives : MarkedPattern → List Instruction
   alternatives (alt p q) = alternatives p ++ (other ∷ program q)
   alternatives empty = []
   alternatives (class m n rs) = read false false n rs ∷ []

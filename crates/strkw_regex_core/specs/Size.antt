@@ -4,7 +4,8 @@
 use Rattle.std.specs.Prelude.{ℕ, ◌+◌, ◌/◌, false, List, [], ◌∷◌, if◌then◌else◌}
 use Rattle.strkw_charset.specs.declared.tree.CharSet.{CharSet}
 use Rattle.strkw_charset.specs.declared.tree.CharSet.TheVariants.{Range, Property}
-use Rattle.strkw_regex_core.specs.Tree.{Pattern, class, cat, alt, star, plus, lookbehind, lookahead}
+use Rattle.strkw_regex_core.specs.machine.MarkedPattern.{MarkedPattern, class, cat, alt, star, plus}
+use Rattle.strkw_regex_core.specs.machine.MarkedPattern.{lookbehind, lookahead}
 use Rattle.strkw_regex_core.specs.OneCharLookahead.{are_told}
 use Rattle.strkw_regex_core.specs.Program.{Instruction, read, peek, program}
 
@@ -37,11 +38,11 @@ abbrev pub steps_of : List Instruction → ℕ
 steps_of [] = 0
 steps_of (i ∷ is) = instruction_steps i + steps_of is
 
-abbrev pub steps : Pattern → ℕ
+abbrev pub steps : MarkedPattern → ℕ
 steps p = steps_of (program p)
 
 -- the pattern with a mark beside what each lookaround looks for
-abbrev pub spread : Pattern → Pattern
+abbrev pub spread : MarkedPattern → MarkedPattern
 spread (cat p q) = cat (spread p) (spread q)
 spread (alt p q) = alt (spread p) (spread q)
 spread (star p) = star (spread p)
@@ -52,5 +53,5 @@ spread p = p
 
 -- of what is searched in one pass, or where lookaheads look farther than the next character, in one
 -- more for each lookaround at most
-abbrev pub search_steps : Pattern → ℕ
+abbrev pub search_steps : MarkedPattern → ℕ
 search_steps p = if are_told p then steps p else steps (spread p)

@@ -1,6 +1,5 @@
--- Patterns as trees. Each class of characters bears a mark, which means nothing for what the
--- pattern matches.
-use Rattle.std.specs.Prelude.{Bool, List}
+-- Patterns as trees.
+use Rattle.std.specs.Prelude.{ℕ, Bool, List, Option}
 use Rattle.strkw_charset.specs.declared.tree.CharSet.{CharSet}
 
 -- ^, $, \b, \B
@@ -9,14 +8,13 @@ pub data Look : Type 0 where
 
 pub data Pattern : Type 0 where
   empty : Pattern
-  -- one character of these sets, or where the second holds, one outside them
-  class : Bool → Bool → List CharSet → Pattern
+  -- one character of these sets, or where the first holds, one outside them
+  class : Bool → List CharSet → Pattern
   look : Look → Pattern
   cat : Pattern → Pattern → Pattern
   alt : Pattern → Pattern → Pattern
-  star : Pattern → Pattern
-  -- once or more
-  plus : Pattern → Pattern
+  -- at least so often, and at most so often where there is a second number
+  repeat : ℕ → Option ℕ → Pattern → Pattern
   -- these read nothing: the pattern matches up to here, or from here on; or where the first holds,
   -- it does not
   lookbehind lookahead : Bool → Pattern → Pattern

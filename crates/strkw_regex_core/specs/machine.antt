@@ -1,4 +1,9 @@
 -- What the code holds, step by step.
+pub mod MarkedPattern
+pub mod MarkedMeaning
+pub mod Times
+pub mod Expansion
+pub mod Mirror
 pub mod EquivalentPatterns
 pub mod Boundaries
 pub mod Positions

@@ -1,8 +1,8 @@
 //! Patterns as they are read: a term that is repeated stands once, beside its quantifier. A program has its copies.
 
 ghost use Rattle.std.specs.Prelude.{◌≡◌, true, false, IfOk, MatchOption};
-ghost use Rattle.strkw_regex_core.specs.Tree.{class as spec_class, cat, alt, lookbehind, lookahead};
-ghost use Rattle.strkw_regex_core.specs.Times.{quantified_pattern};
+ghost use Rattle.strkw_regex_core.specs.machine.MarkedPattern.{class as spec_class, cat, alt, lookbehind, lookahead};
+ghost use Rattle.strkw_regex_core.specs.machine.Times.{quantified_pattern, times_of};
 ghost use Rattle.strkw_regex_core.specs.Program.{is_class, is_empty};
 ghost use Rattle.strkw_regex_core.specs.machine.Shape.{is_plain, outline_pattern, quantifier_of};
 
@@ -18,6 +18,22 @@ pub enum Quantifier {
     Exactly(u32),
     AtLeast(u32),
     FromTo(u32, u32),
+}
+
+impl Quantifier {
+    /// At least so often, and at most so often, where there is a most.
+    pub fn of(least: u32, most: Option<u32>) -> Quantifier
+        ensures { quantifier_of result ≡ times_of least most }
+    {
+        match most {
+            None if least == 0 => Quantifier::ZeroOrMore,
+            None if least == 1 => Quantifier::OneOrMore,
+            None => Quantifier::AtLeast(least),
+            Some(most) if least == most => Quantifier::Exactly(least),
+            Some(most) if least == 0 && most == 1 => Quantifier::ZeroOrOne,
+            Some(most) => Quantifier::FromTo(least, most),
+        }
+    }
 }
 
 #[derive(Drop)]

@@ -1,8 +1,8 @@
 //! Patterns from the end of a text on.
 
 ghost use Rattle.std.specs.Prelude.{◌≡◌, IfOk, if◌then◌else◌};
-ghost use Rattle.strkw_regex_core.specs.Tree.{cat};
-ghost use Rattle.strkw_regex_core.specs.Mirror.{mirror};
+ghost use Rattle.strkw_regex_core.specs.machine.MarkedPattern.{cat};
+ghost use Rattle.strkw_regex_core.specs.machine.Mirror.{mirror};
 ghost use Rattle.strkw_regex_core.specs.machine.EquivalentPatterns.{EquivalentPatterns};
 ghost use Rattle.strkw_regex_core.specs.machine.Shape.{outline_pattern};
 

@@ -1,8 +1,8 @@
 //! How many steps a search takes for a character, told of the outline of a pattern before there is a program.
 
 ghost use Rattle.std.specs.Prelude.{◌≡◌, ◌+◌, ◌*◌, nat_le, if◌then◌else◌};
-ghost use Rattle.strkw_regex_core.specs.Tree.{empty, alt, star, plus};
-ghost use Rattle.strkw_regex_core.specs.Times.{quantified_pattern, copies};
+ghost use Rattle.strkw_regex_core.specs.machine.MarkedPattern.{empty, alt, star, plus};
+ghost use Rattle.strkw_regex_core.specs.machine.Times.{quantified_pattern, copies};
 ghost use Rattle.strkw_regex_core.specs.Program.{glance, alternatives};
 ghost use Rattle.strkw_regex_core.specs.machine.Shape.{outline_pattern, quantifier_of};
 ghost use Rattle.strkw_regex_core.specs.Size.{steps, steps_of, max_term_steps, set_cost, class_steps as spec_class_steps};

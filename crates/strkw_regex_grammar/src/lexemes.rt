@@ -88,12 +88,12 @@ pub enum Lexed {
 
 impl Lexed {
     // Behind a part that the character ended.
-    pub(crate) fn behind(self, first: Before) -> Lexed
-        ensures { (m : Mode) → lexed_of result m ≡ lexed_behind (before_of first) (lexed_of self m) }
+    pub(crate) fn behind(self, part: Before) -> Lexed
+        ensures { (m : Mode) → lexed_of result m ≡ lexed_behind (before_of part) (lexed_of self m) }
     {
         match self {
-            Lexed::Goes => Lexed::Makes(first.lexeme()),
-            Lexed::Makes(second) => Lexed::MakesBoth(first, second),
+            Lexed::Goes => Lexed::Makes(part.lexeme()),
+            Lexed::Makes(next) => Lexed::MakesBoth(part, next),
             Lexed::Fails | Lexed::MakesBoth(..) => Lexed::Fails,
         }
     }

@@ -4,8 +4,8 @@ use Rattle.std.specs.Prelude.{option_and_then, length, is_some, not, ◌&&◌}
 use Rattle.strkw_charset.specs.Properties.{property_of}
 use Rattle.strkw_charset.specs.declared.properties.Property.{Property}
 use Rattle.strkw_charset.specs.declared.tree.CharSet.{CharSet}
-use Rattle.strkw_regex_core.specs.Times.{Times}
-use Rattle.strkw_regex_core.specs.Tree.{Pattern}
+use Rattle.strkw_regex_core.specs.machine.Times.{Times}
+use Rattle.strkw_regex_core.specs.machine.MarkedPattern.{MarkedPattern}
 use Rattle.strkw_regex_grammar.specs.Codes.{null_code, letter_code, byte_code, unit_code, pair_code, point_code, is_lead, is_scalar}
 use Rattle.strkw_regex_grammar.specs.Names.{are_distinct}
 use Rattle.strkw_regex_grammar.specs.Regex.{Leaf, plain, dot, escaped, control_escape, set_escape, coded, property_escape, numbered, called, bracketed, Part}
@@ -153,7 +153,7 @@ module _ (s : Builder) where
   open_leaves c true = refl
 
   -- what closes one
-  close_leaves : (gs : List Open) (ns : List (List ℕ)) (p : Pattern) → IfSome (taken_of (close_in gs ns p)) (λ t. closes_shape (bits_of gs) ≡ Some (shape_of t))
+  close_leaves : (gs : List Open) (ns : List (List ℕ)) (p : MarkedPattern) → IfSome (taken_of (close_in gs ns p)) (λ t. closes_shape (bits_of gs) ≡ Some (shape_of t))
   close_leaves [] ns p = tt
   close_leaves (o ∷ os) ns p = by_kind o.enclosing
     where
@@ -256,7 +256,7 @@ parts_leave (p ∷ ps) s = rest (parts_leave ps) (take_lexemes step s (lexemes t
         joined (Some u) k = ap (option_and_then (λ (z : Shape). shapes z.0 z.1 ps)) h ∙ k
 
 -- where a pattern may end, nothing is open
-pub closed_shape : (t : Builder) (p : Pattern) → at_end t ≡ Some p → is_closed_shape (Some (shape_of t)) ≡ true
+pub closed_shape : (t : Builder) (p : MarkedPattern) → at_end t ≡ Some p → is_closed_shape (Some (shape_of t)) ≡ true
 closed_shape t p e = by_groups t.groups refl
   where
     -- by what is open

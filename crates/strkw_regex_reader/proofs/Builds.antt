@@ -9,8 +9,8 @@ use Rattle.strkw_charset.specs.declared.properties.Property.{Property}
 use Rattle.strkw_charset.specs.declared.tree.CharSet.{CharSet}
 use Rattle.strkw_charset.proofs.Booleans.{and_left, and_right}
 use Rattle.strkw_regex_core.specs.Size.{steps, max_term_steps}
-use Rattle.strkw_regex_core.specs.Times.{Times, exact_times, least_times, range_times, quantified_pattern, copies}
-use Rattle.strkw_regex_core.specs.Tree.{Pattern, empty, class, cat, alt, lookbehind, lookahead}
+use Rattle.strkw_regex_core.specs.machine.Times.{times_of, Times, quantified_pattern, copies}
+use Rattle.strkw_regex_core.specs.machine.MarkedPattern.{MarkedPattern, empty, class, cat, alt, lookbehind, lookahead}
 use Rattle.strkw_regex_grammar.specs.Classes.{contents, property_set}
 use Rattle.strkw_regex_grammar.specs.Codes.{null_code, letter_code, byte_code, unit_code, pair_code, point_code, code_value, is_lead, is_trail, is_scalar}
 use Rattle.strkw_regex_grammar.specs.Codes.{hex_number}
@@ -28,7 +28,10 @@ use Rattle.strkw_regex_grammar.specs.machine.Lexemes.{Lexeme, lexemes, cap_numbe
 use Rattle.strkw_regex_grammar.specs.declared.lexer.numbers.Form.TheVariants.{Unit as unit_form, Other as other_form}
 use Rattle.strkw_regex_grammar.proofs.LexerRuns.{part_steps}
 use Rattle.strkw_regex_reader.specs.Limits.{max_count, takes_code, takes_ranges, takes_leaf, is_within}
-use Rattle.strkw_regex_reader.specs.Patterns.{one_char, times, edge_pattern, leaf_pattern, pattern, alternative_pattern, term_pattern, atom_pattern}
+use Rattle.strkw_regex_reader.specs.machine.Times.{times}
+use Rattle.strkw_regex_reader.specs.Patterns.{one_char, edge_pattern, leaf_pattern, pattern, alternative_pattern}
+use Rattle.strkw_regex_core.specs.machine.Expansion.{expand}
+use Rattle.strkw_regex_reader.specs.Patterns.{term_pattern, atom_pattern}
 use Rattle.strkw_regex_reader.specs.machine.Building as building
 use Rattle.strkw_regex_reader.specs.machine.Building.{Level, Last, none, atom, lead, counted, Open, Builder, Built, takes, refuses, all_terms, whole_level}
 use Rattle.strkw_regex_reader.specs.machine.Building.{level_so_far, new_level, at_level, enclose, build, build_one, build_behind, step, taken_of, is_lead_last}
@@ -49,25 +52,25 @@ abbrev pub so_far : End → Level
 so_far k = level_so_far k.0 k.1
 
 -- with one more term
-abbrev pub with_last_term : End → Pattern → End
+abbrev pub with_last_term : End → MarkedPattern → End
 with_last_term k p = (record { earlier = k.0.earlier; current = cat (all_terms k.0.current k.1) p }, none)
 
 -- with one more atom
-abbrev pub with_last_atom : End → Pattern → End
+abbrev pub with_last_atom : End → MarkedPattern → End
 with_last_atom k p = (so_far k, atom p)
 
 -- with an atom that a quantifier repeats, lazily or not
-abbrev pub with_repeated : End → Pattern → Greed → End
+abbrev pub with_repeated : End → MarkedPattern → Greed → End
 with_repeated k p greedy = (so_far k, counted p)
 with_repeated k p lazy = with_last_term k p
 
 -- behind a term
 abbrev pub term_end : End → Term → End
-term_end k (asserted e) = with_last_term k (edge_pattern e)
-term_end k (looks_behind n d) = with_last_term k (lookbehind n (pattern d))
-term_end k (looks_ahead n d) = with_last_term k (lookahead n (pattern d))
-term_end k (once a) = with_last_atom k (atom_pattern a)
-term_end k (quantified a q g) = with_repeated k (quantified_pattern (times q) (atom_pattern a)) g
+term_end k (asserted e) = with_last_term k (expand (edge_pattern e))
+term_end k (looks_behind n d) = with_last_term k (lookbehind n (expand (pattern d)))
+term_end k (looks_ahead n d) = with_last_term k (lookahead n (expand (pattern d)))
+term_end k (once a) = with_last_atom k (expand (atom_pattern a))
+term_end k (quantified a q g) = with_repeated k (quantified_pattern (times q) (expand (atom_pattern a))) g
 
 -- behind the terms of an alternative
 abbrev pub alternative_end : End → Alternative → End
@@ -111,11 +114,11 @@ whole_disjunction k (only a) h = whole_alternative k a h
 whole_disjunction k (either d a) h = whole_alternative (bar_end (disjunction_end k d)) a refl
 
 -- the terms of a level, with the last
-abbrev pub terms_of : End → Pattern
+abbrev pub terms_of : End → MarkedPattern
 terms_of k = all_terms k.0.current k.1
 
 -- they are those before, and the term
-terms_more : (k : End) (t : Term) → terms_of (term_end k t) ≡ cat (terms_of k) (term_pattern t)
+terms_more : (k : End) (t : Term) → terms_of (term_end k t) ≡ cat (terms_of k) (expand (term_pattern t))
 terms_more k (asserted e) = refl
 terms_more k (looks_behind n d) = refl
 terms_more k (looks_ahead n d) = refl
@@ -124,9 +127,9 @@ terms_more k (quantified a q greedy) = refl
 terms_more k (quantified a q lazy) = refl
 
 -- so those of an alternative are its pattern
-terms_are : (k : End) (a : Alternative) → terms_of k ≡ empty → terms_of (alternative_end k a) ≡ alternative_pattern a
+terms_are : (k : End) (a : Alternative) → terms_of k ≡ empty → terms_of (alternative_end k a) ≡ expand (alternative_pattern a)
 terms_are k nothing h = h
-terms_are k (more a t) h = terms_more (alternative_end k a) t ∙ ap (λ p. cat p (term_pattern t)) (terms_are k a h)
+terms_are k (more a t) h = terms_more (alternative_end k a) t ∙ ap (λ p. cat p (expand (term_pattern t))) (terms_are k a h)
 
 -- a term leaves the alternatives before as they are
 earlier_term : (k : End) (t : Term) → (term_end k t).0.earlier ≡ k.0.earlier
@@ -143,14 +146,14 @@ earlier_same k nothing = refl
 earlier_same k (more a t) = earlier_term (alternative_end k a) t ∙ earlier_same k a
 
 -- so the alternatives of a level are the pattern of the tree
-pub level_is : (d : Disjunction) → whole_level (disjunction_end fresh d).0 (disjunction_end fresh d).1 ≡ pattern d
+pub level_is : (d : Disjunction) → whole_level (disjunction_end fresh d).0 (disjunction_end fresh d).1 ≡ expand (pattern d)
 level_is (only a) =
     ap (λ e. building.join_alternatives e (terms_of (alternative_end fresh a))) (earlier_same fresh a) ∙ terms_are fresh a refl
 level_is (either d a) =
     let k = bar_end (disjunction_end fresh d) in
     ap (λ e. building.join_alternatives e (terms_of (alternative_end k a))) (earlier_same k a)
     ∙ ap (alt (whole_level (disjunction_end fresh d).0 (disjunction_end fresh d).1)) (terms_are k a refl)
-    ∙ ap (λ p. alt p (alternative_pattern a)) (level_is d)
+    ∙ ap (λ p. alt p (expand (alternative_pattern a))) (level_is d)
 
 -- the names, and behind them those of the groups of parts
 abbrev pub names_behind : List (List ℕ) → List Part → List (List ℕ)
@@ -276,17 +279,17 @@ module _ {A : Type 0} (K : Builder → Option A) (rejects : Rejects K) (gs : Lis
 
   -- behind a leaf that is taken
   abbrev leaf_built : List (List ℕ) → End → Leaf → List Part → Option A
-  leaf_built ns k l qs = built K (state gs ns (with_last_atom k (leaf_pattern l))) qs
+  leaf_built ns k l qs = built K (state gs ns (with_last_atom k (expand (leaf_pattern l)))) qs
 
   -- an escape by a number that is no surrogate's as `\\u` with four digits
   code_builds : (ns : List (List ℕ)) (k : End) (n : ℕ) (qs : List Part) (z : Bool)
-      → built_behind K (number_if (state gs ns k) other_form n z) qs ≡ when z (built K (state gs ns (with_last_atom k (one_char n))) qs)
+      → built_behind K (number_if (state gs ns k) other_form n z) qs ≡ when z (built K (state gs ns (with_last_atom k (expand (one_char n)))) qs)
   code_builds ns k n qs false = refl
   code_builds ns k n qs true = refl
 
   -- `\\u` with four digits
   unit_builds : (ns : List (List ℕ)) (k : End) (n : ℕ) (qs : List Part) → AreParts qs → (z y : Bool) → is_lead n ≡ y → (y && begins_with_trail qs) ≡ false
-      → built_behind K (number_if (state gs ns k) unit_form n z) qs ≡ when z (built K (state gs ns (with_last_atom k (one_char n))) qs)
+      → built_behind K (number_if (state gs ns k) unit_form n z) qs ≡ when z (built K (state gs ns (with_last_atom k (expand (one_char n)))) qs)
   unit_builds ns k n qs f true y e h = refl
   unit_builds ns k n qs f false false e h = ap (λ u. built_behind K (lead_if (state gs ns k) n u) qs) e
   unit_builds ns k n qs f false true e h =
@@ -353,7 +356,7 @@ module _ {A : Type 0} (K : Builder → Option A) (rejects : Rejects K) (gs : Lis
 
   -- quantifiers
   -- a count behind an atom
-  count_builds : (ns : List (List ℕ)) (k : End) (p : Pattern) (t : Times) (qs : List Part) (z : Bool)
+  count_builds : (ns : List (List ℕ)) (k : End) (p : MarkedPattern) (t : Times) (qs : List Part) (z : Bool)
       → built_behind K (small_if z (takes (state gs ns (k.0, counted (quantified_pattern t p))))) qs
       ≡ when z (built K (state gs ns (k.0, counted (quantified_pattern t p))) qs)
   count_builds ns k p t qs false = refl
@@ -370,11 +373,11 @@ module _ {A : Type 0} (K : Builder → Option A) (rejects : Rejects K) (gs : Lis
   neither true b = refl
 
   -- behind an atom
-  abbrev counted_so : List (List ℕ) → Level → Pattern → Quantifier → List Part → Option A
+  abbrev counted_so : List (List ℕ) → Level → MarkedPattern → Quantifier → List Part → Option A
   counted_so ns l p q qs = built K (state gs ns (l, counted (quantified_pattern (times q) p))) qs
 
   -- a quantifier, where it is within the limits
-  pub quantifier_builds : (ns : List (List ℕ)) (l : Level) (p : Pattern) (q : Quantifier) (qs : List Part)
+  pub quantifier_builds : (ns : List (List ℕ)) (l : Level) (p : MarkedPattern) (q : Quantifier) (qs : List Part)
       → built K (state gs ns (l, atom p)) (repeats q ∷ qs) ≡ when (is_within q (steps p)) (counted_so ns l p q qs)
   quantifier_builds ns l p zero_or_more qs = refl
   quantifier_builds ns l p one_or_more qs = refl
@@ -382,38 +385,38 @@ module _ {A : Type 0} (K : Builder → Option A) (rejects : Rejects K) (gs : Lis
   quantifier_builds ns l p (exactly ds) qs =
       let s = state gs ns (l, atom p) in
       let n = number ds in
-      ap (λ z. built_behind K (great_if z (count_behind s (atom p) (exact_times (cap_number n)))) qs) (held_great n)
-      ∙ great_builds (count_behind s (atom p) (exact_times (cap_number n)))
-      (when (nat_le (n * steps p) max_term_steps) (counted_so ns l p (exactly ds) qs)) qs (nat_le n max_count)
-      (λ e. ap (λ m. built_behind K (count_behind s (atom p) (exact_times m)) qs) (held_small n e)
-      ∙ count_builds ns (l, none) p (exact_times n) qs (nat_le (n * steps p) max_term_steps))
+      ap (λ z. built_behind K (great_if z (count_behind s (atom p) (times_of (cap_number n) (Some (cap_number n))))) qs) (held_great n)
+      ∙ great_builds (count_behind s (atom p) (times_of (cap_number n) (Some (cap_number n))))
+      (when (nat_le (copies (times_of n (Some n)) * steps p) max_term_steps) (counted_so ns l p (exactly ds) qs)) qs (nat_le n max_count)
+      (λ e. ap (λ m. built_behind K (count_behind s (atom p) (times_of m (Some m))) qs) (held_small n e)
+      ∙ count_builds ns (l, none) p (times_of n (Some n)) qs (nat_le (copies (times_of n (Some n)) * steps p) max_term_steps))
       ∙ sym (when_both (nat_le n max_count) _ (counted_so ns l p (exactly ds) qs))
   quantifier_builds ns l p (at_least ds) qs =
       let s = state gs ns (l, atom p) in
       let n = number ds in
-      ap (λ z. built_behind K (great_if z (count_behind s (atom p) (least_times (cap_number n)))) qs) (held_great n)
-      ∙ great_builds (count_behind s (atom p) (least_times (cap_number n)))
-      (when (nat_le (copies (least_times n) * steps p) max_term_steps) (counted_so ns l p (at_least ds) qs)) qs (nat_le n max_count)
-      (λ e. ap (λ m. built_behind K (count_behind s (atom p) (least_times m)) qs) (held_small n e)
-      ∙ count_builds ns (l, none) p (least_times n) qs (nat_le (copies (least_times n) * steps p) max_term_steps))
+      ap (λ z. built_behind K (great_if z (count_behind s (atom p) (times_of (cap_number n) None))) qs) (held_great n)
+      ∙ great_builds (count_behind s (atom p) (times_of (cap_number n) None))
+      (when (nat_le (copies (times_of n None) * steps p) max_term_steps) (counted_so ns l p (at_least ds) qs)) qs (nat_le n max_count)
+      (λ e. ap (λ m. built_behind K (count_behind s (atom p) (times_of m None)) qs) (held_small n e)
+      ∙ count_builds ns (l, none) p (times_of n None) qs (nat_le (copies (times_of n None) * steps p) max_term_steps))
       ∙ sym (when_both (nat_le n max_count) _ (counted_so ns l p (at_least ds) qs))
   quantifier_builds ns l p (from_to ds es) qs =
       let s = state gs ns (l, atom p) in
       let n = number ds in
       let m = number es in
       let both = nat_le n max_count && nat_le m max_count in
-      ap (λ z. built_behind K (great_if z (count_behind s (atom p) (range_times (cap_number n) (cap_number m)))) qs)
+      ap (λ z. built_behind K (great_if z (count_behind s (atom p) (times_of (cap_number n) (Some (cap_number m))))) qs)
       (ap (λ z. z || is_great (cap_number m)) (held_great n) ∙ ap (λ z. not (nat_le n max_count) || z) (held_great m)
       ∙ neither (nat_le n max_count) (nat_le m max_count))
-      ∙ great_builds (count_behind s (atom p) (range_times (cap_number n) (cap_number m)))
-      (when (nat_le (m * steps p) max_term_steps) (counted_so ns l p (from_to ds es) qs)) qs both
-      (λ e. ap (λ i. built_behind K (count_behind s (atom p) (range_times i (cap_number m))) qs) (held_small n (and_left _ _ e))
-      ∙ ap (λ i. built_behind K (count_behind s (atom p) (range_times n i)) qs) (held_small m (and_right (nat_le n max_count) _ e))
-      ∙ count_builds ns (l, none) p (range_times n m) qs (nat_le (m * steps p) max_term_steps))
+      ∙ great_builds (count_behind s (atom p) (times_of (cap_number n) (Some (cap_number m))))
+      (when (nat_le (copies (times_of n (Some m)) * steps p) max_term_steps) (counted_so ns l p (from_to ds es) qs)) qs both
+      (λ e. ap (λ i. built_behind K (count_behind s (atom p) (times_of i (Some (cap_number m)))) qs) (held_small n (and_left _ _ e))
+      ∙ ap (λ i. built_behind K (count_behind s (atom p) (times_of n (Some i))) qs) (held_small m (and_right (nat_le n max_count) _ e))
+      ∙ count_builds ns (l, none) p (times_of n (Some m)) qs (nat_le (copies (times_of n (Some m)) * steps p) max_term_steps))
       ∙ sym (when_both both _ (counted_so ns l p (from_to ds es) qs))
 
   -- and the `?` that makes it lazy, or none
-  pub greed_builds : (ns : List (List ℕ)) (k : End) (p : Pattern) (g : Greed) (qs : List Part)
+  pub greed_builds : (ns : List (List ℕ)) (k : End) (p : MarkedPattern) (g : Greed) (qs : List Part)
       → built K (state gs ns (so_far k, counted p)) (greed_parts g ++ qs) ≡ built K (state gs ns (with_repeated k p g)) qs
   greed_builds ns k p greedy qs = refl
   greed_builds ns k p lazy qs = refl

@@ -9,3 +9,4 @@ pub mod Stands
 pub mod Terms
 pub mod Reasons
 pub mod RefusedLexemes
+pub mod OrderedBounds

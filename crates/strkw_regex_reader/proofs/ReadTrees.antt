@@ -6,7 +6,7 @@ use Rattle.std.proofs.lemmas.Bool.{lt-leb, le-leb}
 use Rattle.std.proofs.lemmas.Bool.Decides.{nat_tests}
 use Rattle.strkw_regex_core.specs.LeadingLookahead.{parts as parts_of_pattern, steps_of_parts}
 use Rattle.strkw_regex_core.specs.Size.{max_steps}
-use Rattle.strkw_regex_core.specs.Tree.{Pattern}
+use Rattle.strkw_regex_core.specs.machine.MarkedPattern.{MarkedPattern}
 use Rattle.strkw_regex_grammar.specs.NullEscape.{is_apart}
 use Rattle.strkw_regex_reader.specs.Refusals.{IsReason}
 use Rattle.strkw_regex_reader.specs.declared.refusals.PatternRefusal.TheVariants.{TooLarge}
@@ -22,6 +22,7 @@ use Rattle.strkw_regex_grammar.proofs.LexerComplete.{reads_parts}
 use Rattle.strkw_regex_grammar.proofs.RegexTrees.{is_closed_shape, shapes, shape_of_tree, tree_of_shape}
 use Rattle.strkw_regex_reader.specs.Limits.{max_length, takes as takes_tree}
 use Rattle.strkw_regex_reader.specs.Patterns.{pattern}
+use Rattle.strkw_regex_core.specs.machine.Expansion.{expand}
 use Rattle.strkw_regex_reader.specs.machine.Building.{Builder, Built, takes, refuses, build, step, taken_of, at_end, when, nothing_built}
 use Rattle.strkw_regex_reader.specs.machine.Reading.{built_at, both_at, outcome_of_lexed, next, goes_to, initial, read_all, read_short, keep_small}
 use Rattle.strkw_regex_reader.proofs.Builds.{built}
@@ -36,21 +37,21 @@ pub record IsReadAs (source : List ℕ) (d : Disjunction) : Type 0 where
   pub distinct : are_distinct (names (parts d)) ≡ true
 
 -- where something comes of a test, it holds
-when_holds : (z : Bool) (o : Option Pattern) (p : Pattern) → when z o ≡ Some p → (z ≡ true) × (o ≡ Some p)
+when_holds : (z : Bool) (o : Option MarkedPattern) (p : MarkedPattern) → when z o ≡ Some p → (z ≡ true) × (o ≡ Some p)
 when_holds false o p h = absurd (true≢false (sym (ap is_some h)))
 when_holds true o p h = (refl, h)
 
 -- each such tree is read
-pub complete : (source : List ℕ) (d : Disjunction) → IsReadAs source d → read_all source ≡ Some (pattern d)
+pub complete : (source : List ℕ) (d : Disjunction) → IsReadAs source d → read_all source ≡ Some (expand (pattern d))
 complete source d h =
     ap read_all (sym h.spelled)
     ∙ ap (option_and_then at_end) (reads_parts true step (parts d) h.formed [] kinds.None (ap is_closed_shape (shape_of_tree d).1) nothing_built)
-    ∙ tree_builds d h.formed ∙ ap (λ z. when z (when (are_distinct (names (parts d))) (Some (pattern d)))) h.taken
-    ∙ ap (λ z. when z (Some (pattern d))) h.distinct
+    ∙ tree_builds d h.formed ∙ ap (λ z. when z (when (are_distinct (names (parts d))) (Some (expand (pattern d))))) h.taken
+    ∙ ap (λ z. when z (Some (expand (pattern d)))) h.distinct
 
 -- parts that build a pattern are those of such a tree
-tree_of : (source : List ℕ) (t : Builder) (p : Pattern) → at_end t ≡ Some p → (r : Parted true step nothing_built t source)
-    → (d : Disjunction) × IsReadAs source d × (pattern d ≡ p)
+tree_of : (source : List ℕ) (t : Builder) (p : MarkedPattern) → at_end t ≡ Some p → (r : Parted true step nothing_built t source)
+    → (d : Disjunction) × IsReadAs source d × (expand (pattern d) ≡ p)
 tree_of source t p e r =
     let shape : shapes [] kinds.None r.parts ≡ Some (shape_of t) =
     subst (λ o. IfSome o (λ u. shapes [] kinds.None r.parts ≡ Some (shape_of u))) r.way (parts_leave r.parts nothing_built) in
@@ -61,26 +62,26 @@ tree_of source t p e r =
     let distinct = when_holds (are_distinct (names (parts tree.0))) _ p taken.1 in (
       tree.0,
       record { formed = formed; spelled = ap spelling tree.1 ∙ r.spelled; taken = taken.0; distinct = distinct.0 },
-      same_some (pattern tree.0) p distinct.1,
+      same_some (expand (pattern tree.0)) p distinct.1,
     )
   where
     -- what is the same as options is the same
-    same_some : (q u : Pattern) → Some q ≡ Some u → q ≡ u
-    same_some q u h = ap (λ (o : Option Pattern). or_else q o) h
+    same_some : (q u : MarkedPattern) → Some q ≡ Some u → q ≡ u
+    same_some q u h = ap (λ (o : Option MarkedPattern). or_else q o) h
       where
         -- the pattern that there is
-        or_else : Pattern → Option Pattern → Pattern
+        or_else : MarkedPattern → Option MarkedPattern → MarkedPattern
         or_else q None = q
         or_else q (Some u) = u
 
 -- so what is read is the pattern of such a tree
-pub sound_of : (source : List ℕ) (o : Option Builder) (p : Pattern) → run true step nothing_built between source ≡ o → option_and_then at_end o ≡ Some p
-    → (d : Disjunction) × IsReadAs source d × (pattern d ≡ p)
+pub sound_of : (source : List ℕ) (o : Option Builder) (p : MarkedPattern) → run true step nothing_built between source ≡ o → option_and_then at_end o ≡ Some p
+    → (d : Disjunction) × IsReadAs source d × (expand (pattern d) ≡ p)
 sound_of source None p e h = absurd (true≢false (sym (ap is_some h)))
 sound_of source (Some t) p e h = tree_of source t p h (sound true step t nothing_built source e)
 
 -- the same of the text
-pub read_sound : (source : List ℕ) (p : Pattern) → read_all source ≡ Some p → (d : Disjunction) × IsReadAs source d × (pattern d ≡ p)
+pub read_sound : (source : List ℕ) (p : MarkedPattern) → read_all source ≡ Some p → (d : Disjunction) × IsReadAs source d × (expand (pattern d) ≡ p)
 read_sound source p h = sound_of source (run true step nothing_built between source) p refl h
 
 -- what goes on goes on for a reader of lexemes
@@ -127,7 +128,7 @@ nothing_read source e = by_test (nat_le (length source) max_length)
     by_test false = refl
 
 -- what is read and has its digits apart, and is not taken, is too large
-pub too_large : (source : List ℕ) (p : Pattern) → length source ≤ max_length → read_all source ≡ Some p → is_apart source ≡ true → takes_pattern source ≡ false
+pub too_large : (source : List ℕ) (p : MarkedPattern) → length source ≤ max_length → read_all source ≡ Some p → is_apart source ≡ true → takes_pattern source ≡ false
     → IsReason source TooLarge
 too_large source p l e a f =
     let tree = read_sound source p e in (
@@ -146,7 +147,7 @@ too_large source p l e a f =
     large n false k h = grind (arith, nat_tests)
 
 -- so it is of what was built of it
-pub too_large_of : {A : Type 0} (f : A → Pattern) (o : Option A) (source : List ℕ) → is_some o ≡ true → option_map f o ≡ read_all source
+pub too_large_of : {A : Type 0} (f : A → MarkedPattern) (o : Option A) (source : List ℕ) → is_some o ≡ true → option_map f o ≡ read_all source
     → length source ≤ max_length → is_apart source ≡ true → takes_pattern source ≡ false → IsReason source TooLarge
 too_large_of f None source h e l a t = absurd (true≢false (sym h))
 too_large_of f (Some x) source h e l a t = too_large source (f x) l (sym e) a t

@@ -7,8 +7,8 @@ use Rattle.strkw_charset.specs.Properties.{property_of}
 use Rattle.strkw_charset.specs.declared.properties.Property.{Property}
 use Rattle.strkw_charset.specs.declared.tree.CharSet.{CharSet}
 use Rattle.strkw_regex_core.specs.Size.{steps, max_term_steps}
-use Rattle.strkw_regex_core.specs.Times.{Times, exact_times, least_times, range_times, copies}
-use Rattle.strkw_regex_core.specs.Tree.{Pattern}
+use Rattle.strkw_regex_core.specs.machine.Times.{times_of, Times, copies}
+use Rattle.strkw_regex_core.specs.machine.MarkedPattern.{MarkedPattern}
 use Rattle.strkw_regex_grammar.specs.Codes.{null_code, letter_code, byte_code, unit_code, pair_code, point_code, hex_number, is_lead, is_trail, is_scalar}
 use Rattle.strkw_regex_grammar.specs.machine.CodeMakers.{pair_value}
 use Rattle.strkw_regex_grammar.specs.Names.{name_spelling, name_value}
@@ -31,7 +31,7 @@ use Rattle.strkw_regex_grammar.proofs.LexerSound.{IsWaiting, next_follows}
 use Rattle.strkw_charset.specs.machine.PropertyReading.{PropertyPart, brace_awaited, in_braces}
 use Rattle.strkw_regex_grammar.proofs.PropertyReadings.{part_spelling as property_part_spelling, IsPart as IsPropertyPart}
 use Rattle.strkw_regex_reader.specs.Limits.{max_nesting}
-use Rattle.strkw_regex_reader.specs.Patterns.{times}
+use Rattle.strkw_regex_reader.specs.machine.Times.{times}
 use Rattle.strkw_regex_reader.specs.Refusals.{IsReason}
 use Rattle.strkw_regex_reader.specs.declared.refusals.PatternRefusal.{PatternRefusal}
 use Rattle.strkw_regex_reader.specs.declared.refusals.PatternRefusal.TheVariants.{CountTooGreat, TermTooLarge}
@@ -103,7 +103,7 @@ module _ (text : List ℕ) where
     class_refuses n (Some rs) = tt
 
     -- nor is what closes nothing
-    close_refuses : (gs : List Open) (ns : List (List ℕ)) (p : Pattern) → Refuses (close_in gs ns p)
+    close_refuses : (gs : List Open) (ns : List (List ℕ)) (p : MarkedPattern) → Refuses (close_in gs ns p)
     close_refuses [] ns p = tt
     close_refuses (o ∷ os) ns p = tt
 
@@ -128,7 +128,7 @@ module _ (text : List ℕ) where
       open_refuses c u g f e false k = deeper_told text s front b g after f e k
 
       -- a term that is too large
-      term_refuses : (q : Quantifier) → IsPart (repeats q) → front ++ (quantifier_spelling q ++ after) ≡ text → (p : Pattern) → s.last ≡ atom p
+      term_refuses : (q : Quantifier) → IsPart (repeats q) → front ++ (quantifier_spelling q ++ after) ≡ text → (p : MarkedPattern) → s.last ≡ atom p
           → nat_le (copies (times q) * steps p) max_term_steps ≡ false → IsReason text TermTooLarge
       term_refuses q f e p k m =
           let last = last_atom s front b p k in (
@@ -208,13 +208,13 @@ module _ (text : List ℕ) where
       one_refuses (repeats (exactly ds)) f i e =
           great_refuses (is_great (cap_number (number ds))) _
           (λ k. exact_refuses ds (byte "}" ∷ after) f (ap (λ z. front ++ byte "{" ∷ z) (sym (append_assoc ds (byte "}" ∷ []) after)) ∙ e) k)
-          (λ k. subst (λ n. Refuses (count_behind s s.last (exact_times n))) (sym (held_small (number ds) (small_number (number ds) k)))
+          (λ k. subst (λ n. Refuses (count_behind s s.last (times_of n (Some n)))) (sym (held_small (number ds) (small_number (number ds) k)))
           (count_refuses (exactly ds) f e s.last refl))
       one_refuses (repeats (at_least ds)) f i e =
           great_refuses (is_great (cap_number (number ds))) _
           (λ k. exact_refuses ds (byte "," ∷ byte "}" ∷ after) f
           (ap (λ z. front ++ byte "{" ∷ z) (sym (append_assoc ds (byte "," ∷ byte "}" ∷ []) after)) ∙ e) k)
-          (λ k. subst (λ n. Refuses (count_behind s s.last (least_times n))) (sym (held_small (number ds) (small_number (number ds) k)))
+          (λ k. subst (λ n. Refuses (count_behind s s.last (times_of n None))) (sym (held_small (number ds) (small_number (number ds) k)))
           (count_refuses (at_least ds) f e s.last refl))
       one_refuses (repeats (from_to ds es)) f i e = by_tests (is_great (cap_number (number ds))) (is_great (cap_number (number es))) refl refl
         where
@@ -227,7 +227,7 @@ module _ (text : List ℕ) where
 
           -- by which is great
           by_tests : (x y : Bool) → is_great (cap_number (number ds)) ≡ x → is_great (cap_number (number es)) ≡ y
-              → Refuses (great_if (x || y) (count_behind s s.last (range_times (cap_number (number ds)) (cap_number (number es)))))
+              → Refuses (great_if (x || y) (count_behind s s.last (times_of (cap_number (number ds)) (Some (cap_number (number es))))))
           by_tests true y k l =
               exact_refuses ds (byte "," ∷ (es ++ byte "}" ∷ after)) f.0
               (ap (λ z. front ++ byte "{" ∷ z) (sym (append_assoc ds (byte "," ∷ es) (byte "}" ∷ after))) ∙ both) k
@@ -243,8 +243,8 @@ module _ (text : List ℕ) where
             ),
           )
           by_tests false false k l =
-              subst (λ n. Refuses (count_behind s s.last (range_times n (cap_number (number es))))) (sym (held_small (number ds) (small_number (number ds) k)))
-              (subst (λ n. Refuses (count_behind s s.last (range_times (number ds) n))) (sym (held_small (number es) (small_number (number es) l)))
+              subst (λ n. Refuses (count_behind s s.last (times_of n (Some (cap_number (number es)))))) (sym (held_small (number ds) (small_number (number ds) k)))
+              (subst (λ n. Refuses (count_behind s s.last (times_of (number ds) (Some n)))) (sym (held_small (number es) (small_number (number es) l)))
               (count_refuses (from_to ds es) f e s.last refl))
 
     -- so it is behind whatever stands

@@ -8,8 +8,8 @@ use Rattle.strkw_charset.specs.Properties.{property_of}
 use Rattle.strkw_charset.specs.Sets.{control_char}
 use Rattle.strkw_charset.specs.declared.properties.Property.{Property}
 use Rattle.strkw_charset.specs.declared.tree.CharSet.{CharSet}
-use Rattle.strkw_regex_core.specs.Times.{Times}
-use Rattle.strkw_regex_core.specs.Tree.{Pattern}
+use Rattle.strkw_regex_core.specs.machine.Times.{Times}
+use Rattle.strkw_regex_core.specs.machine.MarkedPattern.{MarkedPattern}
 use Rattle.strkw_regex_grammar.specs.Codes.{null_code, letter_code, byte_code, unit_code, pair_code, point_code, hex_number, is_lead, is_trail, is_scalar}
 use Rattle.strkw_regex_grammar.specs.Codes.{code_value}
 use Rattle.strkw_regex_grammar.specs.Names.{name_value}
@@ -119,7 +119,7 @@ module _ (s : Builder) where
   whole_open c true = refl
 
   -- or closes
-  whole_close : (gs : List Open) (ns : List (List ℕ)) (p : Pattern) → IfSome (taken_of (close_in gs ns p)) IsWhole
+  whole_close : (gs : List Open) (ns : List (List ℕ)) (p : MarkedPattern) → IfSome (taken_of (close_in gs ns p)) IsWhole
   whole_close [] ns p = tt
   whole_close (o ∷ os) ns p = by_kind o.enclosing
     where

@@ -3,7 +3,7 @@ use Rattle.std.proofs.Common.{◌≡◌, ℕ, suc, nat_lt, Bool, true, false, no
 use Rattle.std.proofs.Common.{◌∙◌, append_assoc}
 use Rattle.std.proofs.lemmas.List.{append-nil}
 use Rattle.strkw_regex_core.specs.Size.{steps}
-use Rattle.strkw_regex_core.specs.Times.{quantified_pattern}
+use Rattle.strkw_regex_core.specs.machine.Times.{quantified_pattern}
 use Rattle.strkw_regex_grammar.specs.Names.{name_value, are_distinct}
 use Rattle.strkw_regex_grammar.specs.Regex.{Part, bar, edge, leaf, opens, closes, repeats, Disjunction, only, either, Alternative, nothing, more, Term}
 use Rattle.strkw_regex_grammar.specs.Regex.{asserted, looks_behind, looks_ahead, once, quantified, Atom, single, group, parts, alternative_parts}
@@ -12,7 +12,9 @@ use Rattle.strkw_regex_grammar.specs.Syntax.{greedy, lazy, Greed, capturing, pla
 use Rattle.strkw_regex_grammar.specs.machine.Lexemes as lexeme
 use Rattle.strkw_regex_reader.specs.Limits.{max_nesting, is_within}
 use Rattle.strkw_regex_reader.specs.Limits.{takes as takes_tree, takes_alternative, takes_term, takes_atom_of}
-use Rattle.strkw_regex_reader.specs.Patterns.{times, pattern, atom_pattern}
+use Rattle.strkw_regex_reader.specs.machine.Times.{times}
+use Rattle.strkw_regex_reader.specs.Patterns.{pattern, atom_pattern}
+use Rattle.strkw_regex_core.specs.machine.Expansion.{expand}
 use Rattle.strkw_regex_reader.specs.machine.Building.{Open, Builder, Enclosing, at_level, at_end, enclose, opened, open_if, whole_level, when, nothing_built}
 use Rattle.strkw_regex_reader.specs.declared.builder.Enclosing.TheVariants as enclosings
 use Rattle.strkw_regex_reader.proofs.Builds.{End, state, so_far, with_last_atom, with_repeated, term_end, alternative_end, bar_end}
@@ -44,7 +46,7 @@ module _ {A : Type 0} (K : Builder → Option A) (rejects : Rejects K) where
       → AreParts ((parts d ++ closes ∷ []) ++ qs)
       → built_behind K (open_if z (opened (state gs ns k) c)) ((parts d ++ closes ∷ []) ++ qs)
       ≡ when (z && takes_tree (suc (length gs)) d)
-      (built K (enclose (at_level gs (names_behind ns (parts d ++ closes ∷ [])) (so_far k)) c (pattern d)) qs)
+      (built K (enclose (at_level gs (names_behind ns (parts d ++ closes ∷ [])) (so_far k)) c (expand (pattern d))) qs)
   around_builds d f gs ns k c qs false h = refl
   around_builds d f gs ns k c qs true h =
       let shift = append_assoc (parts d) (closes ∷ []) qs in
@@ -55,7 +57,7 @@ module _ {A : Type 0} (K : Builder → Option A) (rejects : Rejects K) where
       ∙ ap (when (takes_tree (suc (length gs)) d))
       (first K rejects (o ∷ gs) inner (disjunction_end fresh d) lexeme.ends qs (whole_disjunction fresh d refl)
       ∙ ap (λ p. built K (enclose (at_level gs inner (so_far k)) c p) qs) (level_is d)
-      ∙ ap (λ z. built K (enclose (at_level gs z (so_far k)) c (pattern d)) qs) (sym (names_joined ns (parts d) (closes ∷ []))))
+      ∙ ap (λ z. built K (enclose (at_level gs z (so_far k)) c (expand (pattern d))) qs) (sym (names_joined ns (parts d) (closes ∷ []))))
 
   mutual
     -- a disjunction, before other parts
@@ -102,7 +104,7 @@ module _ {A : Type 0} (K : Builder → Option A) (rejects : Rejects K) where
     term_builds (quantified a q g) gs ns k qs w h =
         let shift = append_assoc (atom_parts a) (repeats q ∷ greed_parts g) qs in
         let inner = names_behind ns (atom_parts a) in
-        let p = atom_pattern a in
+        let p = expand (atom_pattern a) in
         joins (takes_atom_of (length gs) a) (is_within q (steps p)) _ _ _
         (ap (built_at gs ns k) shift ∙ atom_builds a gs ns k (repeats q ∷ (greed_parts g ++ qs)) w (subst AreParts shift h))
         (quantifier_builds K rejects gs inner (so_far k) p q (greed_parts g ++ qs)
@@ -114,7 +116,7 @@ module _ {A : Type 0} (K : Builder → Option A) (rejects : Rejects K) where
     -- and an atom
     pub atom_builds : (a : Atom) (gs : List Open) (ns : List (List ℕ)) (k : End) (qs : List Part) → IsWhole k → AreParts (atom_parts a ++ qs)
         → built_at gs ns k (atom_parts a ++ qs)
-        ≡ when (takes_atom_of (length gs) a) (built_at gs (names_behind ns (atom_parts a)) (with_last_atom k (atom_pattern a)) qs)
+        ≡ when (takes_atom_of (length gs) a) (built_at gs (names_behind ns (atom_parts a)) (with_last_atom k (expand (atom_pattern a))) qs)
     atom_builds (single l) gs ns k qs w h = leaf_builds K rejects gs ns k l qs w h
     atom_builds (group capturing d) gs ns k qs w h =
         first K rejects gs ns k (lexeme.begins lexeme.capture) _ w ∙ around_builds d (disjunction_builds d) gs ns k enclosings.Group qs (nat_lt (length gs) max_nesting) h.2
@@ -145,7 +147,7 @@ end_rejects (o ∷ os) ns l n = refl
 
 -- so the parts of a whole pattern build its pattern, where it is taken and no name is there twice
 pub tree_builds : (d : Disjunction) → AreParts (parts d)
-    → built at_end nothing_built (parts d) ≡ when (takes_tree 0 d) (when (are_distinct (names (parts d))) (Some (pattern d)))
+    → built at_end nothing_built (parts d) ≡ when (takes_tree 0 d) (when (are_distinct (names (parts d))) (Some (expand (pattern d))))
 tree_builds d h =
     let nil = append-nil (parts d) in
     let k = disjunction_end fresh d in

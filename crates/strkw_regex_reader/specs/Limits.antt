@@ -2,7 +2,7 @@
 use Rattle.std.specs.Prelude.{ℕ, suc, ◌*◌, nat_lt, nat_le, Bool, true, false, ◌&&◌, is_some}
 use Rattle.strkw_charset.specs.Properties.{property_of}
 use Rattle.strkw_regex_core.specs.Size.{steps, max_term_steps}
-use Rattle.strkw_regex_core.specs.Times.{copies}
+use Rattle.strkw_regex_core.specs.machine.Times.{copies}
 use Rattle.strkw_regex_grammar.specs.Classes.{ClassAtom, class_coded, class_property, Ranges}
 use Rattle.strkw_regex_grammar.specs.Classes.{no_ranges, with_one, with_range}
 use Rattle.strkw_regex_grammar.specs.Codes.{Code, code_value, is_scalar}
@@ -14,7 +14,9 @@ use Rattle.strkw_regex_grammar.specs.Regex.{Term, asserted, looks_behind, looks_
 use Rattle.strkw_regex_grammar.specs.Regex.{quantified, Atom, single, group}
 use Rattle.strkw_regex_grammar.specs.Syntax.{Quantifier, zero_or_more, one_or_more, zero_or_one}
 use Rattle.strkw_regex_grammar.specs.Syntax.{exactly, at_least, from_to}
-use Rattle.strkw_regex_reader.specs.Patterns.{times, atom_pattern}
+use Rattle.strkw_regex_reader.specs.machine.Times.{times}
+use Rattle.strkw_regex_reader.specs.Patterns.{atom_pattern}
+use Rattle.strkw_regex_core.specs.machine.Expansion.{expand}
 
 -- no count is greater, groups and lookarounds lie in one another at most so deep, and a pattern has
 -- at most so many characters
@@ -84,7 +86,8 @@ abbrev mutual
   takes_term n (looks_behind b d) = nat_lt n max_nesting && takes (suc n) d
   takes_term n (looks_ahead b d) = nat_lt n max_nesting && takes (suc n) d
   takes_term n (once a) = takes_atom_of n a
-  takes_term n (quantified a q g) = takes_atom_of n a && is_within q (steps (atom_pattern a))
+  takes_term n (quantified a q g) =
+      takes_atom_of n a && is_within q (steps (expand (atom_pattern a)))
 
   pub takes_atom_of : ℕ → Atom → Bool
   takes_atom_of n (single l) = takes_leaf l

@@ -1,13 +1,11 @@
 -- The pattern that a tree of the grammar stands for (ECMA-262 2024, section 22.2.2). Whether a
 -- quantifier is lazy matters for which match is found first, and not for whether one is.
-use Rattle.std.specs.Prelude.{ℕ, true, false, [], ◌∷◌}
+use Rattle.std.specs.Prelude.{ℕ, Option, Some, None, true, false, [], ◌∷◌}
 use Rattle.strkw_charset.specs.Properties.{property_of}
 use Rattle.strkw_charset.specs.Sets.{line_ends, set_of, is_negative, control_char}
 use Rattle.strkw_charset.specs.declared.tree.CharSet.TheVariants.{Range}
-use Rattle.strkw_regex_core.specs.Times.{Times, any_times, some_times, once_at_most, exact_times}
-use Rattle.strkw_regex_core.specs.Times.{least_times, range_times, quantified_pattern}
-use Rattle.strkw_regex_core.specs.Tree.{Pattern, empty, class, look, cat, alt, start, end, boundary}
-use Rattle.strkw_regex_core.specs.Tree.{no_boundary, lookbehind, lookahead}
+use Rattle.strkw_regex_core.specs.Tree.{Pattern, empty, class, look, cat, alt, repeat, start, end}
+use Rattle.strkw_regex_core.specs.Tree.{boundary, no_boundary, lookbehind, lookahead}
 use Rattle.strkw_regex_grammar.specs.Classes.{contents, property_set}
 use Rattle.strkw_regex_grammar.specs.Codes.{code_value}
 use Rattle.strkw_regex_grammar.specs.Numbers.{number}
@@ -22,15 +20,24 @@ use Rattle.strkw_regex_grammar.specs.Syntax.{Quantifier, zero_or_more, one_or_mo
 use Rattle.strkw_regex_grammar.specs.Syntax.{exactly, at_least, from_to}
 
 abbrev pub one_char : ℕ → Pattern
-one_char c = class false false (Range c c ∷ [])
+one_char c = class false (Range c c ∷ [])
 
-abbrev pub times : Quantifier → Times
-times zero_or_more = any_times
-times one_or_more = some_times
-times zero_or_one = once_at_most
-times (exactly ds) = exact_times (number ds)
-times (at_least ds) = least_times (number ds)
-times (from_to ds es) = range_times (number ds) (number es)
+-- how often a quantifier repeats at least and at most (CompileQuantifier)
+abbrev pub least : Quantifier → ℕ
+least zero_or_more = 0
+least one_or_more = 1
+least zero_or_one = 0
+least (exactly ds) = number ds
+least (at_least ds) = number ds
+least (from_to ds es) = number ds
+
+abbrev pub most : Quantifier → Option ℕ
+most zero_or_more = None
+most one_or_more = None
+most zero_or_one = Some 1
+most (exactly ds) = Some (number ds)
+most (at_least ds) = None
+most (from_to ds es) = Some (number es)
 
 abbrev pub edge_pattern : Edge → Pattern
 edge_pattern edges.Start = look start
@@ -41,15 +48,15 @@ edge_pattern edges.NoBoundary = look no_boundary
 -- back references are not taken: these stand for nothing
 abbrev pub leaf_pattern : Leaf → Pattern
 leaf_pattern (plain c) = one_char c
-leaf_pattern dot = class false true line_ends
+leaf_pattern dot = class true line_ends
 leaf_pattern (escaped c) = one_char c
 leaf_pattern (control_escape c) = one_char (control_char c)
-leaf_pattern (set_escape c) = class false (is_negative c) (set_of c)
+leaf_pattern (set_escape c) = class (is_negative c) (set_of c)
 leaf_pattern (coded k) = one_char (code_value k)
-leaf_pattern (property_escape n e) = class false false (property_set n (property_of e))
+leaf_pattern (property_escape n e) = class false (property_set n (property_of e))
 leaf_pattern (numbered ds) = empty
 leaf_pattern (called n) = empty
-leaf_pattern (bracketed n r e) = class false n (contents r e)
+leaf_pattern (bracketed n r e) = class n (contents r e)
 
 abbrev mutual
   pub pattern : Disjunction → Pattern
@@ -65,7 +72,7 @@ abbrev mutual
   term_pattern (looks_behind n d) = lookbehind n (pattern d)
   term_pattern (looks_ahead n d) = lookahead n (pattern d)
   term_pattern (once a) = atom_pattern a
-  term_pattern (quantified a q g) = quantified_pattern (times q) (atom_pattern a)
+  term_pattern (quantified a q g) = repeat (least q) (most q) (atom_pattern a)
 
   pub atom_pattern : Atom → Pattern
   atom_pattern (single l) = leaf_pattern l

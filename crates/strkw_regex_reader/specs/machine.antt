@@ -1,4 +1,5 @@
 -- What the code holds, lexeme by lexeme.
+pub mod Times
 pub mod Building
 pub mod BuilderParts
 pub mod Reading

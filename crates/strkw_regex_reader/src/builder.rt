@@ -6,6 +6,7 @@ ghost use Rattle.strkw_regex_grammar.specs.machine.LexerParts.{lexeme_of};
 ghost use Rattle.strkw_regex_reader.specs.machine.BuilderParts.{built_of, builder_of};
 ghost use Rattle.strkw_regex_reader.specs.machine.Building.{at_end, build, build_one, nothing_built, may_end, with_term};
 ghost use Rattle.strkw_regex_reader.specs.Patterns.{edge_pattern};
+ghost use Rattle.strkw_regex_core.specs.machine.Expansion.{expand};
 
 mod counting;
 mod level;
@@ -80,7 +81,7 @@ impl Builder {
 
     fn take_edge(&mut self, alloc: Global, edge: Edge) -> Result<(), AllocError>
         ensures { IfOk result (λ _. builder_of self.new
-            ≡ with_term (builder_of self.old) (edge_pattern edge)) }
+            ≡ with_term (builder_of self.old) (expand (edge_pattern edge))) }
     {
         let term = match edge {
             Edge::Start => CountedRegex::Start,

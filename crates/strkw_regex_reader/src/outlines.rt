@@ -1,8 +1,9 @@
 //! What the classes and escapes of a pattern are read as.
 
 ghost use Rattle.std.specs.Prelude.{◌≡◌, true, false, [], ◌∷◌, IfOk};
-ghost use Rattle.strkw_regex_core.specs.Tree.{class};
+ghost use Rattle.strkw_regex_core.specs.machine.MarkedPattern.{class};
 ghost use Rattle.strkw_regex_reader.specs.Patterns.{one_char as spec_one_char};
+ghost use Rattle.strkw_regex_core.specs.machine.Expansion.{expand};
 ghost use Rattle.strkw_charset.specs.Sets.{line_ends, set_of as spec_set_of, is_negative as spec_is_negative};
 ghost use Rattle.strkw_regex_core.specs.machine.Shape.{outline_pattern};
 ghost use Rattle.strkw_charset.specs.declared.tree.CharSet.TheVariants.{Property as PropertySet};
@@ -14,7 +15,7 @@ use strkw_charset::tree::CharSet;
 use strkw_regex_core::counted_regex::CountedRegex;
 
 pub(crate) fn one_char(alloc: Global, c: char) -> Result<CountedRegex, AllocError>
-    ensures { IfOk result (λ t. outline_pattern t ≡ spec_one_char c) }
+    ensures { IfOk result (λ t. outline_pattern t ≡ expand (spec_one_char c)) }
 {
     Ok(CountedRegex::Class {
         negated: false,

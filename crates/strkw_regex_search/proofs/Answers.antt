@@ -1,8 +1,9 @@
 -- The search as a function is true exactly where the pattern is found.
 use Rattle.std.proofs.Common.{◌≡◌, ◌⊎◌, ◌↔◌, ℕ, suc, ◌<◌, ◌≤◌, Bool, true, false, ◌||◌, List, [], ◌∷◌, Option, Some, None, length, get_or, drop}
 use Rattle.std.proofs.Common.{drop-cons, length-drop, drop_of_length-le, IsTrue, refl, sym, ap, ◌∙◌, inl, inr, arith}
-use Rattle.strkw_regex_core.specs.Tree.{Pattern}
-use Rattle.strkw_regex_core.specs.Meaning.{before, Found}
+use Rattle.strkw_regex_core.specs.machine.MarkedPattern.{MarkedPattern}
+use Rattle.strkw_regex_core.specs.Meaning.{before}
+use Rattle.strkw_regex_core.specs.machine.MarkedMeaning.{Found}
 use Rattle.strkw_regex_core.specs.OneCharLookahead.{are_told}
 use Rattle.strkw_regex_core.specs.machine.Positions.{leaves, step, Kept, Later, is_clean}
 use Rattle.strkw_regex_search.specs.machine.Search.{search_from}
@@ -39,7 +40,7 @@ module _ (text : List ℕ) where
   either_side k n = grind arith
 
   -- from a place on the search is true exactly where a match is under way or begins there or later
-  by_place : (cs : List ℕ) (k : ℕ) (p : Pattern) (last : Option ℕ) → Kept (seen_from text) text p k → last ≡ before text k → drop k text ≡ cs → k ≤ length text
+  by_place : (cs : List ℕ) (k : ℕ) (p : MarkedPattern) (last : Option ℕ) → Kept (seen_from text) text p k → last ≡ before text k → drop k text ≡ cs → k ≤ length text
       → IsTrue (search_from p last cs) ↔ Later text p k
   by_place [] k p last kept after e h =
       let whole : k ≡ length text = omega (arith, sym (length-drop k text) ∙ ap length e) in
@@ -58,7 +59,7 @@ module _ (text : List ℕ) where
 
 -- of a pattern without marks, whose lookaheads are told
 -- the search of the text is true exactly where it is found
-pub search_is_exact : (p : Pattern) (text : List ℕ) → is_clean p ≡ true → are_told p ≡ true → IsTrue (search_from p None text) ↔ Found p text
+pub search_is_exact : (p : MarkedPattern) (text : List ℕ) → is_clean p ≡ true → are_told p ≡ true → IsTrue (search_from p None text) ↔ Found p text
 search_is_exact p text h w = both (by_place text text 0 p None (kept_first text p h w) refl refl (omega arith)) (at_first text p h)
 
 -- two answers that are true exactly where the same holds are the same
@@ -68,7 +69,7 @@ same_answer F false true e f = e.1 (f.0 refl)
 same_answer F false false e f = refl
 
 -- a turn of a search whose answer is known: the next character is c
-module _ (p : Pattern) (last : Option ℕ) (c : ℕ) (left rest : List ℕ) (answer : Bool) (so_far : search_from p last left ≡ answer)
+module _ (p : MarkedPattern) (last : Option ℕ) (c : ℕ) (left rest : List ℕ) (answer : Bool) (so_far : search_from p last left ≡ answer)
     (begins : left ≡ c ∷ rest) (ends : Bool) (ends_is : ends ≡ leaves last (Some c) p true) where
   -- it ends here, or else the search of the rest comes to the answer
   here : (ends || search_from (step last (Some c) p true) (Some c) rest) ≡ answer
@@ -83,6 +84,6 @@ module _ (p : Pattern) (last : Option ℕ) (c : ℕ) (left rest : List ℕ) (ans
   search_found e = sym (ap (λ (b : Bool). b || search_from (step last (Some c) p true) (Some c) rest) e) ∙ here
 
 -- at the end it comes to what ends there
-pub search_ends : (p : Pattern) (last : Option ℕ) (left : List ℕ) (answer : Bool) → search_from p last left ≡ answer → left ≡ [] → (ends : Bool)
+pub search_ends : (p : MarkedPattern) (last : Option ℕ) (left : List ℕ) (answer : Bool) → search_from p last left ≡ answer → left ≡ [] → (ends : Bool)
     → ends ≡ leaves last None p true → ends ≡ answer
 search_ends p last left answer so_far none ends is = is ∙ sym (ap (search_from p last) none) ∙ so_far

@@ -1,9 +1,9 @@
 -- The parts of a pattern are searched within twice their steps.
 use Rattle.std.proofs.Common.{◌≡◌, ℕ, ◌*◌, ◌≤◌, Bool, true, false, List, [], ◌∷◌, refl, arith}
-use Rattle.strkw_regex_core.specs.Tree.{Pattern}
+use Rattle.strkw_regex_core.specs.machine.MarkedPattern.{MarkedPattern}
 use Rattle.strkw_regex_core.specs.LeadingLookahead.{Part, steps_of_parts}
 use Rattle.strkw_regex_core.specs.OneCharLookahead.{are_told}
-use Rattle.strkw_regex_core.specs.Mirror.{target, sought_in}
+use Rattle.strkw_regex_core.specs.machine.Mirror.{target, sought_in}
 use Rattle.strkw_regex_core.specs.Size.{search_steps}
 use Rattle.strkw_regex_search.specs.machine.Counted.{IsWithin, AreSearchedWithin}
 use Rattle.strkw_regex_core.specs.machine.Positions.{is_unmarked}
@@ -14,7 +14,7 @@ use Rattle.strkw_regex_core.proofs.Sizes.{told_steps, far_steps}
 use Rattle.strkw_charset.proofs.Booleans.{and_left, and_right}
 
 -- one is, by whether the next character tells what its lookaheads look for
-one_within : (b : Bool) (p : Pattern) (text : List ℕ) → are_told p ≡ b → is_unmarked p ≡ true → IsWithin b (2 * search_steps p) p text
+one_within : (b : Bool) (p : MarkedPattern) (text : List ℕ) → are_told p ≡ b → is_unmarked p ≡ true → IsWithin b (2 * search_steps p) p text
 one_within true p text told bare = searched_within (2 * search_steps p) p text (omega (arith, told_steps p told))
 one_within false p text far bare = sought_within (2 * search_steps p) p text bare (omega (arith, far_steps p far))
 

@@ -2,7 +2,7 @@
 use Rattle.std.proofs.Common.{◌≡◌, ℕ, ◌+◌, ◌*◌, ◌≤◌, Bool, true, false, ◌||◌, List, [], ◌∷◌, length, Option, Some, None, if◌then◌else◌, refl, sym, ap}
 use Rattle.std.proofs.Common.{◌∙◌, arith}
 use Rattle.std.proofs.lemmas.List.{append-nil}
-use Rattle.strkw_regex_core.specs.Tree.{Pattern}
+use Rattle.strkw_regex_core.specs.machine.MarkedPattern.{MarkedPattern}
 use Rattle.strkw_regex_core.specs.machine.Positions.{leaves, step, marks_of}
 use Rattle.strkw_regex_search.specs.machine.Search.{search_from}
 use Rattle.strkw_regex_core.specs.Program.{Instruction, program}
@@ -49,7 +49,7 @@ module _ (b a : Option ℕ) where
 
   -- of the program of a pattern, with its marks
   -- such a walk comes to whether the pattern is left, and to its marks after a step
-  pub walk_of : (p : Pattern) → (walking b a (program p) (marks_of p)).result ≡ record { leaves = leaves b a p true; marks = marks_of (step b a p true) }
+  pub walk_of : (p : MarkedPattern) → (walking b a (program p) (marks_of p)).result ≡ record { leaves = leaves b a p true; marks = marks_of (step b a p true) }
   walk_of p =
       walking_result (program p) (marks_of p)
       ∙ ap (walked b a (program p)) (sym (append-nil (marks_of p)))
@@ -70,7 +70,7 @@ steps_on true n most more rest h g = omega (arith, h)
 steps_on false n most more rest h g = omega (arith, h, g)
 
 -- the counted search by the program of a pattern comes to what the search does
-searching_result : (p : Pattern) (last : Option ℕ) (text : List ℕ)
+searching_result : (p : MarkedPattern) (last : Option ℕ) (text : List ℕ)
     → (counted_search (program p) (marks_of p) last text).result ≡ search_from p last text
 searching_result p last [] = ap (λ (w : Walked). w.leaves) (walk_of last None p)
 searching_result p last (c ∷ cs) =
@@ -94,7 +94,7 @@ searching_steps most is ms last (c ∷ cs) h =
     omega (arith, more)
 
 -- a search is within each limit that is at least twice the steps of its pattern
-pub searched_within : (most : ℕ) (p : Pattern) (text : List ℕ) → 2 * steps p ≤ most → IsSearchedWithin most p text
+pub searched_within : (most : ℕ) (p : MarkedPattern) (text : List ℕ) → 2 * steps p ≤ most → IsSearchedWithin most p text
 searched_within most p text h = record {
   answer = searching_result p None text;
   steps = searching_steps most (program p) (marks_of p) None text h;

@@ -2,7 +2,8 @@
 use Rattle.std.proofs.Common.{◌≡◌, ◌+◌, ◌≤◌, Bool, true, false, ◌||◌, List, [], ◌∷◌, ◌++◌, length, refl, ap, ◌∙◌, arith}
 use Rattle.std.proofs.lemmas.Bool.Decides.{nat_tests}
 use Rattle.strkw_charset.specs.declared.tree.CharSet.{CharSet}
-use Rattle.strkw_regex_core.specs.Tree.{Look, Pattern, empty, class, look, cat, alt, star, plus, lookbehind, lookahead}
+use Rattle.strkw_regex_core.specs.Tree.{Look}
+use Rattle.strkw_regex_core.specs.machine.MarkedPattern.{MarkedPattern, empty, class, look, cat, alt, star, plus, lookbehind, lookahead}
 use Rattle.strkw_regex_core.specs.machine.Positions.{classes}
 use Rattle.strkw_regex_core.specs.machine.Boundaries.{sees_boundary, has_boundary}
 use Rattle.strkw_regex_core.specs.Program.{Instruction, read, assert, peek, fork, other, join, star_begin, star_end, plus_begin, plus_end, look_begin}
@@ -22,42 +23,42 @@ few_of [] = omega arith
 few_of (i ∷ is) = omega (arith, one_at_least i, few_of is)
 
 -- the program of a pattern has no more instructions than the pattern has steps
-pub few_instructions : (p : Pattern) → length (program p) ≤ steps p
+pub few_instructions : (p : MarkedPattern) → length (program p) ≤ steps p
 few_instructions p = few_of (program p)
 
 -- What is said of a pattern and of instructions, where it goes over from the parts to the whole.
-pub record GoesOver (R : Pattern → List Instruction → Type 0) : Type 0 where
+pub record GoesOver (R : MarkedPattern → List Instruction → Type 0) : Type 0 where
   pub of_empty : R empty []
   pub of_class : (m n : Bool) (rs : List CharSet) → R (class m n rs) (read false false n rs ∷ [])
   pub of_look : (l : Look) → R (look l) (assert l ∷ [])
-  pub of_cat : (p q : Pattern) (xs ys : List Instruction) → R p xs → R q ys → R (cat p q) (xs ++ ys)
+  pub of_cat : (p q : MarkedPattern) (xs ys : List Instruction) → R p xs → R q ys → R (cat p q) (xs ++ ys)
   pub of_option : (m n : Bool) (rs : List CharSet) → R (alt empty (class m n rs)) (read false true n rs ∷ [])
-  pub of_alt : (p q : Pattern) (xs ys : List Instruction) → R p xs → R q ys → R (alt p q) (fork ∷ (xs ++ (other ∷ (ys ++ (join ∷ [])))))
-  pub of_beside : (p q : Pattern) (xs ys : List Instruction) → R p xs → R q ys → R (alt p q) (xs ++ (other ∷ ys))
+  pub of_alt : (p q : MarkedPattern) (xs ys : List Instruction) → R p xs → R q ys → R (alt p q) (fork ∷ (xs ++ (other ∷ (ys ++ (join ∷ [])))))
+  pub of_beside : (p q : MarkedPattern) (xs ys : List Instruction) → R p xs → R q ys → R (alt p q) (xs ++ (other ∷ ys))
   pub of_class_star : (m n : Bool) (rs : List CharSet) → R (star (class m n rs)) (read true true n rs ∷ [])
-  pub of_star : (p : Pattern) (xs : List Instruction) → R p xs → R (star p) (star_begin ∷ (xs ++ (star_end ∷ [])))
+  pub of_star : (p : MarkedPattern) (xs : List Instruction) → R p xs → R (star p) (star_begin ∷ (xs ++ (star_end ∷ [])))
   pub of_class_plus : (m n : Bool) (rs : List CharSet) → R (plus (class m n rs)) (read true false n rs ∷ [])
-  pub of_plus : (p : Pattern) (xs : List Instruction) → R p xs → R (plus p) (plus_begin ∷ (xs ++ (plus_end ∷ [])))
-  pub of_behind : (n : Bool) (p : Pattern) (xs : List Instruction) → R p xs → R (lookbehind n p) (look_begin n ∷ (xs ++ (look_end n ∷ [])))
-  pub of_ahead : (n : Bool) (p : Pattern) → R (lookahead n p) (look_begin n ∷ (glance p ++ (look_end n ∷ [])))
+  pub of_plus : (p : MarkedPattern) (xs : List Instruction) → R p xs → R (plus p) (plus_begin ∷ (xs ++ (plus_end ∷ [])))
+  pub of_behind : (n : Bool) (p : MarkedPattern) (xs : List Instruction) → R p xs → R (lookbehind n p) (look_begin n ∷ (xs ++ (look_end n ∷ [])))
+  pub of_ahead : (n : Bool) (p : MarkedPattern) → R (lookahead n p) (look_begin n ∷ (glance p ++ (look_end n ∷ [])))
 
 -- It holds then of each pattern and its program.
-module _ (R : Pattern → List Instruction → Type 0) (parts : GoesOver R) where
+module _ (R : MarkedPattern → List Instruction → Type 0) (parts : GoesOver R) where
   -- where it holds of a pattern, it holds of its star
-  star_by_parts : (p : Pattern) → R p (program p) → R (star p) (program (star p))
+  star_by_parts : (p : MarkedPattern) → R p (program p) → R (star p) (program (star p))
   star_by_parts p body = by_class (R (star p)) p _ _ (λ m n rs e. rw e (parts.of_class_star m n rs)) (parts.of_star p (program p) body)
 
   -- and of its plus
-  plus_by_parts : (p : Pattern) → R p (program p) → R (plus p) (program (plus p))
+  plus_by_parts : (p : MarkedPattern) → R p (program p) → R (plus p) (program (plus p))
   plus_by_parts p body = by_class (R (plus p)) p _ _ (λ m n rs e. rw e (parts.of_class_plus m n rs)) (parts.of_plus p (program p) body)
 
   -- where it holds of the first as it stands among alternatives, and of the second, it holds of both
-  alt_by_parts : (p q : Pattern) → R p (alternatives p) → R q (program q) → R (alt p q) (program (alt p q))
+  alt_by_parts : (p q : MarkedPattern) → R p (alternatives p) → R q (program q) → R (alt p q) (program (alt p q))
   alt_by_parts p q first second =
       by_option (R (alt p q)) p q _ _ (λ m n rs e f. rw (e, f) (parts.of_option m n rs)) (parts.of_alt p q (alternatives p) (program q) first second)
 
   -- it holds of each pattern with its program, by itself and among alternatives
-  pub both_by_parts : (p : Pattern) → R p (program p) × R p (alternatives p)
+  pub both_by_parts : (p : MarkedPattern) → R p (program p) × R p (alternatives p)
   both_by_parts empty = (parts.of_empty, parts.of_empty)
   both_by_parts (class m n rs) = (parts.of_class m n rs, parts.of_class m n rs)
   both_by_parts (look l) = (parts.of_look l, parts.of_look l)
@@ -80,7 +81,7 @@ more_reads (read again optional n rs ∷ xs) ys = omega (arith, more_reads xs ys
 more_reads (_ ∷ xs) ys = more_reads xs ys
 
 -- what a lookahead looks for reads none
-glance_reads : (p : Pattern) → read_count (glance p) ≡ 0
+glance_reads : (p : MarkedPattern) → read_count (glance p) ≡ 0
 glance_reads empty = refl
 glance_reads (class m n rs) = refl
 glance_reads (look l) = refl
@@ -99,7 +100,7 @@ glance_reads (lookbehind n p) = refl
 glance_reads (lookahead n p) = omega (arith, more_reads (glance p) (look_end n ∷ []), glance_reads p)
 
 -- the program of a pattern reads as many classes as stand in the pattern, outside lookaheads
-pub reads_are_classes : (p : Pattern) → read_count (program p) ≡ classes p
+pub reads_are_classes : (p : MarkedPattern) → read_count (program p) ≡ classes p
 reads_are_classes p =
     (both_by_parts
     (λ q is. read_count is ≡ classes q)
@@ -145,7 +146,7 @@ first_asks : (xs ys : List Instruction) (x : Bool) → asks_boundary xs ≡ x �
 first_asks xs ys x e f = both_ask xs ys x false e f ∙ or_nothing x
 
 -- the same of what a lookahead looks for
-glance_asks : (p : Pattern) → asks_boundary (glance p) ≡ sees_boundary p
+glance_asks : (p : MarkedPattern) → asks_boundary (glance p) ≡ sees_boundary p
 glance_asks empty = refl
 glance_asks (class m n rs) = refl
 glance_asks (look l) = or_nothing (asks_word l)
@@ -158,7 +159,7 @@ glance_asks (lookbehind n p) = refl
 glance_asks (lookahead n p) = first_asks (glance p) (look_end n ∷ []) _ (glance_asks p) refl
 
 -- `\b` or `\B` stands in the program of a pattern exactly where it stands in the pattern
-pub boundary_is_asked : (p : Pattern) → asks_boundary (program p) ≡ has_boundary p
+pub boundary_is_asked : (p : MarkedPattern) → asks_boundary (program p) ≡ has_boundary p
 boundary_is_asked p =
     (both_by_parts
     (λ q is. asks_boundary is ≡ has_boundary q)

@@ -1,7 +1,7 @@
 -- The search for a pattern with any lookarounds comes to whether it is found.
 use Rattle.std.proofs.Common.{◌≡◌, ◌↔◌, ℕ, Bool, true, false, List, length, None, IsTrue, if◌then◌else◌, refl, arith}
-use Rattle.strkw_regex_core.specs.Tree.{Pattern}
-use Rattle.strkw_regex_core.specs.Meaning.{Found}
+use Rattle.strkw_regex_core.specs.machine.MarkedPattern.{MarkedPattern}
+use Rattle.strkw_regex_core.specs.machine.MarkedMeaning.{Found}
 use Rattle.strkw_regex_core.specs.OneCharLookahead.{are_told}
 use Rattle.strkw_regex_core.specs.machine.Positions.{is_unmarked}
 use Rattle.strkw_regex_search.specs.machine.Search.{search_from, found_in}
@@ -11,7 +11,7 @@ use Rattle.strkw_regex_core.proofs.LookaheadTruth.{begins_right, found_right}
 use Rattle.strkw_regex_core.proofs.Unmarked.{clean_unmarked}
 
 -- the search finds a pattern without marks exactly where its meaning has it in the text
-pub found_in_right : (p : Pattern) (text : List ℕ) → is_unmarked p ≡ true → IsTrue (found_in p text) ↔ Found p text
+pub found_in_right : (p : MarkedPattern) (text : List ℕ) → is_unmarked p ≡ true → IsTrue (found_in p text) ↔ Found p text
 found_in_right p text bare = by_test (are_told p) refl
   where
     -- by whether the next character tells what its lookaheads look for

@@ -6,7 +6,7 @@ use Rattle.std.proofs.Math.Bool.{beq}
 use Rattle.std.specs.List.{list_any}
 use Rattle.std.proofs.lemmas.List.{append_assoc, get_or_past, get_or-replicate, length-replicate}
 use Rattle.strkw_charset.specs.declared.tree.CharSet.{CharSet}
-use Rattle.strkw_regex_core.specs.Tree.{Pattern, empty, class, look, cat, alt, star, plus, lookbehind, lookahead}
+use Rattle.strkw_regex_core.specs.machine.MarkedPattern.{MarkedPattern, empty, class, look, cat, alt, star, plus, lookbehind, lookahead}
 use Rattle.strkw_regex_core.specs.machine.Positions.{leaves, step, classes, mark_classes, marks_of, is_clean}
 use Rattle.strkw_regex_core.specs.Program.{Instruction, fork, other, join, star_begin, star_end, plus_begin, plus_end, look_begin, look_end, if_class}
 use Rattle.strkw_regex_core.specs.Program.{if_option, program, alternatives}
@@ -19,16 +19,16 @@ none_behind : (ms : List Bool) (n : ℕ) → ((k : ℕ) → get_or ms k false �
 none_behind ms n none k = get_or-drop n ms k false ∙ none (n + k)
 
 -- with no marks a pattern without marks is itself
-pub unmarked : (ms : List Bool) (p : Pattern) → is_clean p ≡ true → ((k : ℕ) → get_or ms k false ≡ false) → mark_classes ms p ≡ p
+pub unmarked : (ms : List Bool) (p : MarkedPattern) → is_clean p ≡ true → ((k : ℕ) → get_or ms k false ≡ false) → mark_classes ms p ≡ p
 unmarked ms empty h none = refl
 unmarked ms (class true n rs) h none = absurd (true≢false (sym h))
 unmarked ms (class false n rs) h none = ap (λ (b : Bool). class b n rs) (none 0)
 unmarked ms (look l) h none = refl
 unmarked ms (cat p q) h none =
-    ap (λ (r : Pattern). cat r (mark_classes (drop (classes p) ms) q)) (unmarked ms p (and_left _ _ h) none)
+    ap (λ (r : MarkedPattern). cat r (mark_classes (drop (classes p) ms) q)) (unmarked ms p (and_left _ _ h) none)
     ∙ ap (cat p) (unmarked (drop (classes p) ms) q (and_right (is_clean p) _ h) (none_behind ms (classes p) none))
 unmarked ms (alt p q) h none =
-    ap (λ (r : Pattern). alt r (mark_classes (drop (classes p) ms) q)) (unmarked ms p (and_left _ _ h) none)
+    ap (λ (r : MarkedPattern). alt r (mark_classes (drop (classes p) ms) q)) (unmarked ms p (and_left _ _ h) none)
     ∙ ap (alt p) (unmarked (drop (classes p) ms) q (and_right (is_clean p) _ h) (none_behind ms (classes p) none))
 unmarked ms (star p) h none = ap star (unmarked ms p h none)
 unmarked ms (plus p) h none = ap plus (unmarked ms p h none)
@@ -36,7 +36,7 @@ unmarked ms (lookbehind n p) h none = ap (lookbehind n) (unmarked ms p h none)
 unmarked ms (lookahead n p) h none = refl
 
 -- Other marks change neither which classes there are, nor the program.
-pub same_classes : (ms : List Bool) (p : Pattern) → classes (mark_classes ms p) ≡ classes p
+pub same_classes : (ms : List Bool) (p : MarkedPattern) → classes (mark_classes ms p) ≡ classes p
 same_classes ms empty = refl
 same_classes ms (class m n rs) = refl
 same_classes ms (look l) = refl
@@ -48,7 +48,7 @@ same_classes ms (lookbehind n p) = same_classes ms p
 same_classes ms (lookahead n p) = refl
 
 -- what is chosen by whether a pattern is a class is the same with other marks
-same_if_class : {A : Type 0} (ms : List Bool) (p : Pattern) (f : Bool → List CharSet → A) (x : A) → if_class (mark_classes ms p) f x ≡ if_class p f x
+same_if_class : {A : Type 0} (ms : List Bool) (p : MarkedPattern) (f : Bool → List CharSet → A) (x : A) → if_class (mark_classes ms p) f x ≡ if_class p f x
 same_if_class ms empty f x = refl
 same_if_class ms (class m n rs) f x = refl
 same_if_class ms (look l) f x = refl
@@ -60,7 +60,7 @@ same_if_class ms (lookbehind n p) f x = refl
 same_if_class ms (lookahead n p) f x = refl
 
 -- and what is chosen by whether two alternatives are nothing and a class
-same_if_option : {A : Type 0} (ms ns : List Bool) (p q : Pattern) (f : Bool → List CharSet → A) (x : A)
+same_if_option : {A : Type 0} (ms ns : List Bool) (p q : MarkedPattern) (f : Bool → List CharSet → A) (x : A)
     → if_option (mark_classes ms p) (mark_classes ns q) f x ≡ if_option p q f x
 same_if_option ms ns empty q f x = same_if_class ns q f x
 same_if_option ms ns (class m n rs) q f x = refl
@@ -73,17 +73,17 @@ same_if_option ms ns (lookbehind n p) q f x = refl
 same_if_option ms ns (lookahead n p) q f x = refl
 
 -- with these marks a pattern has the same program, by itself and among alternatives
-IsSame : List Bool → Pattern → Type 0
+IsSame : List Bool → MarkedPattern → Type 0
 IsSame ms p = (program (mark_classes ms p) ≡ program p) × (alternatives (mark_classes ms p) ≡ alternatives p)
 
 -- the program of a loop is the same with other marks, where that of its body is
-loop_is_same : (ms : List Bool) (p : Pattern) (begin end : Instruction) (f : Bool → List CharSet → List Instruction) → program (mark_classes ms p) ≡ program p
+loop_is_same : (ms : List Bool) (p : MarkedPattern) (begin end : Instruction) (f : Bool → List CharSet → List Instruction) → program (mark_classes ms p) ≡ program p
     → if_class (mark_classes ms p) f (begin ∷ (program (mark_classes ms p) ++ (end ∷ []))) ≡ if_class p f (begin ∷ (program p ++ (end ∷ [])))
 loop_is_same ms p begin end f e =
     same_if_class ms p f _ ∙ ap (λ (is : List Instruction). if_class p f (begin ∷ (is ++ (end ∷ [])))) e
 
 -- and that of two alternatives, where those of both are
-choice_is_same : (ms ns : List Bool) (p q : Pattern) (f : Bool → List CharSet → List Instruction)
+choice_is_same : (ms ns : List Bool) (p q : MarkedPattern) (f : Bool → List CharSet → List Instruction)
     → alternatives (mark_classes ms p) ≡ alternatives p → program (mark_classes ns q) ≡ program q
     → if_option (mark_classes ms p) (mark_classes ns q) f (fork ∷ (alternatives (mark_classes ms p) ++ (other ∷ (program (mark_classes ns q) ++ (join ∷ [])))))
     ≡ if_option p q f (fork ∷ (alternatives p ++ (other ∷ (program q ++ (join ∷ [])))))
@@ -93,13 +93,13 @@ choice_is_same ms ns p q f e g =
     ∙ ap (λ (is : List Instruction). if_option p q f (fork ∷ (alternatives p ++ (other ∷ (is ++ (join ∷ [])))))) g
 
 -- and that of two patterns one behind the other
-cat_is_same : (ms : List Bool) (p q : Pattern) → program (mark_classes ms p) ≡ program p → program (mark_classes (drop (classes p) ms) q) ≡ program q
+cat_is_same : (ms : List Bool) (p q : MarkedPattern) → program (mark_classes ms p) ≡ program p → program (mark_classes (drop (classes p) ms) q) ≡ program q
     → program (mark_classes ms (cat p q)) ≡ program (cat p q)
 cat_is_same ms p q e f =
     ap (λ (is : List Instruction). is ++ program (mark_classes (drop (classes p) ms) q)) e ∙ ap (λ (is : List Instruction). program p ++ is) f
 
 -- with any marks a pattern has the same program, by itself and among alternatives
-both_are_same : (ms : List Bool) (p : Pattern) → IsSame ms p
+both_are_same : (ms : List Bool) (p : MarkedPattern) → IsSame ms p
 unfolding IsSame
 both_are_same ms empty = (refl, refl)
 both_are_same ms (class m n rs) = (refl, refl)
@@ -120,21 +120,21 @@ both_are_same ms (lookbehind n p) =
 both_are_same ms (lookahead n p) = (refl, refl)
 
 -- marks change nothing of the program of a pattern
-pub same_program : (ms : List Bool) (p : Pattern) → program (mark_classes ms p) ≡ program p
+pub same_program : (ms : List Bool) (p : MarkedPattern) → program (mark_classes ms p) ≡ program p
 unfolding IsSame
 same_program ms p = (both_are_same ms p).0
 
 -- the last marks are those of a pattern
-pub marked_again : (ms ns : List Bool) (p : Pattern) → mark_classes ns (mark_classes ms p) ≡ mark_classes ns p
+pub marked_again : (ms ns : List Bool) (p : MarkedPattern) → mark_classes ns (mark_classes ms p) ≡ mark_classes ns p
 marked_again ms ns empty = refl
 marked_again ms ns (class m n rs) = refl
 marked_again ms ns (look l) = refl
 marked_again ms ns (cat p q) =
-    ap (λ (r : Pattern). cat r (mark_classes (drop (classes (mark_classes ms p)) ns) (mark_classes (drop (classes p) ms) q))) (marked_again ms ns p)
+    ap (λ (r : MarkedPattern). cat r (mark_classes (drop (classes (mark_classes ms p)) ns) (mark_classes (drop (classes p) ms) q))) (marked_again ms ns p)
     ∙ ap (λ (k : ℕ). cat (mark_classes ns p) (mark_classes (drop k ns) (mark_classes (drop (classes p) ms) q))) (same_classes ms p)
     ∙ ap (cat (mark_classes ns p)) (marked_again (drop (classes p) ms) (drop (classes p) ns) q)
 marked_again ms ns (alt p q) =
-    ap (λ (r : Pattern). alt r (mark_classes (drop (classes (mark_classes ms p)) ns) (mark_classes (drop (classes p) ms) q))) (marked_again ms ns p)
+    ap (λ (r : MarkedPattern). alt r (mark_classes (drop (classes (mark_classes ms p)) ns) (mark_classes (drop (classes p) ms) q))) (marked_again ms ns p)
     ∙ ap (λ (k : ℕ). alt (mark_classes ns p) (mark_classes (drop k ns) (mark_classes (drop (classes p) ms) q))) (same_classes ms p)
     ∙ ap (alt (mark_classes ns p)) (marked_again (drop (classes p) ms) (drop (classes p) ns) q)
 marked_again ms ns (star p) = ap star (marked_again ms ns p)
@@ -143,7 +143,7 @@ marked_again ms ns (lookbehind n p) = ap (lookbehind n) (marked_again ms ns p)
 marked_again ms ns (lookahead n p) = refl
 
 -- a pattern has as many marks as classes
-pub marks_count : (p : Pattern) → length (marks_of p) ≡ classes p
+pub marks_count : (p : MarkedPattern) → length (marks_of p) ≡ classes p
 marks_count empty = refl
 marks_count (class m n rs) = refl
 marks_count (look l) = refl
@@ -155,16 +155,16 @@ marks_count (lookbehind n p) = marks_count p
 marks_count (lookahead n p) = refl
 
 -- a pattern with its own marks is itself
-pub own_marks : (p : Pattern) (ms : List Bool) → mark_classes (marks_of p ++ ms) p ≡ p
+pub own_marks : (p : MarkedPattern) (ms : List Bool) → mark_classes (marks_of p ++ ms) p ≡ p
 own_marks empty ms = refl
 own_marks (class m n rs) ms = refl
 own_marks (look l) ms = refl
 own_marks (cat p q) ms =
     rw (append_assoc (marks_of p) (marks_of q) ms, drop_at (marks_of p) (marks_of q ++ ms) (classes p) (marks_count p))
-    (ap (λ (r : Pattern). cat r (mark_classes (marks_of q ++ ms) q)) (own_marks p (marks_of q ++ ms)) ∙ ap (cat p) (own_marks q ms))
+    (ap (λ (r : MarkedPattern). cat r (mark_classes (marks_of q ++ ms) q)) (own_marks p (marks_of q ++ ms)) ∙ ap (cat p) (own_marks q ms))
 own_marks (alt p q) ms =
     rw (append_assoc (marks_of p) (marks_of q) ms, drop_at (marks_of p) (marks_of q ++ ms) (classes p) (marks_count p))
-    (ap (λ (r : Pattern). alt r (mark_classes (marks_of q ++ ms) q)) (own_marks p (marks_of q ++ ms)) ∙ ap (alt p) (own_marks q ms))
+    (ap (λ (r : MarkedPattern). alt r (mark_classes (marks_of q ++ ms) q)) (own_marks p (marks_of q ++ ms)) ∙ ap (alt p) (own_marks q ms))
 own_marks (star p) ms = ap star (own_marks p ms)
 own_marks (plus p) ms = ap plus (own_marks p ms)
 own_marks (lookbehind n p) ms = ap (lookbehind n) (own_marks p ms)
@@ -179,7 +179,7 @@ both_taken ms n m xs ys e f =
     ∙ ap (λ (zs : List Bool). xs ++ zs) f ∙ e
 
 -- the marks that a pattern takes from a list long enough, and those left, are the list
-pub marks_taken : (ms : List Bool) (p : Pattern) → classes p ≤ length ms → marks_of (mark_classes ms p) ++ drop (classes p) ms ≡ ms
+pub marks_taken : (ms : List Bool) (p : MarkedPattern) → classes p ≤ length ms → marks_of (mark_classes ms p) ++ drop (classes p) ms ≡ ms
 marks_taken ms empty h = refl
 marks_taken [] (class m n rs) h = absurd (omega (arith, h))
 marks_taken (x ∷ ms) (class m n rs) h = refl
@@ -197,7 +197,7 @@ marks_taken ms (lookahead n p) h = refl
 
 module _ (b a : Option ℕ) where
   -- after a step a pattern has as many classes as before
-  step_classes : (p : Pattern) (x : Bool) → classes (step b a p x) ≡ classes p
+  step_classes : (p : MarkedPattern) (x : Bool) → classes (step b a p x) ≡ classes p
   step_classes empty x = refl
   step_classes (class m n rs) x = refl
   step_classes (look l) x = refl
@@ -209,16 +209,16 @@ module _ (b a : Option ℕ) where
   step_classes (lookahead n p) x = refl
 
   -- a step is of the same pattern, with other marks
-  pub step_marked : (ms : List Bool) (p : Pattern) (x : Bool) → mark_classes ms (step b a p x) ≡ mark_classes ms p
+  pub step_marked : (ms : List Bool) (p : MarkedPattern) (x : Bool) → mark_classes ms (step b a p x) ≡ mark_classes ms p
   step_marked ms empty x = refl
   step_marked ms (class m n rs) x = refl
   step_marked ms (look l) x = refl
   step_marked ms (cat p q) x =
-      ap (λ (r : Pattern). cat r (mark_classes (drop (classes (step b a p x)) ms) (step b a q (leaves b a p x)))) (step_marked ms p x)
+      ap (λ (r : MarkedPattern). cat r (mark_classes (drop (classes (step b a p x)) ms) (step b a q (leaves b a p x)))) (step_marked ms p x)
       ∙ ap (λ (k : ℕ). cat (mark_classes ms p) (mark_classes (drop k ms) (step b a q (leaves b a p x)))) (step_classes p x)
       ∙ ap (cat (mark_classes ms p)) (step_marked (drop (classes p) ms) q (leaves b a p x))
   step_marked ms (alt p q) x =
-      ap (λ (r : Pattern). alt r (mark_classes (drop (classes (step b a p x)) ms) (step b a q x))) (step_marked ms p x)
+      ap (λ (r : MarkedPattern). alt r (mark_classes (drop (classes (step b a p x)) ms) (step b a q x))) (step_marked ms p x)
       ∙ ap (λ (k : ℕ). alt (mark_classes ms p) (mark_classes (drop k ms) (step b a q x))) (step_classes p x)
       ∙ ap (alt (mark_classes ms p)) (step_marked (drop (classes p) ms) q x)
   step_marked ms (star p) x = ap star (step_marked ms p (x || leaves b a p false))
@@ -227,19 +227,19 @@ module _ (b a : Option ℕ) where
   step_marked ms (lookahead n p) x = refl
 
   -- so it has the same program
-  pub step_program : (p : Pattern) (x : Bool) → program (step b a p x) ≡ program p
+  pub step_program : (p : MarkedPattern) (x : Bool) → program (step b a p x) ≡ program p
   step_program p x =
       sym (same_program [] (step b a p x)) ∙ ap program (step_marked [] p x) ∙ same_program [] p
 
   -- What a walk over the program comes to, with the marks in a list: the answer of the pattern, and its marks behind
   -- the character.
-  pub record IsStepOf (p : Pattern) (ms ns : List Bool) (left : Bool) : Type 0 where
+  pub record IsStepOf (p : MarkedPattern) (ms ns : List Bool) (left : Bool) : Type 0 where
     pub leaves_is : left ≡ leaves b a (mark_classes ms p) true
     pub marks_are : mark_classes ns p ≡ step b a (mark_classes ms p) true
     pub lengths : length ns ≡ length ms
 
   -- a walk over the program comes to that, where the list has a mark for each class
-  pub walk_steps : (p : Pattern) (ms : List Bool) → classes p ≤ length ms
+  pub walk_steps : (p : MarkedPattern) (ms : List Bool) → classes p ≤ length ms
       → IsStepOf p ms (walked b a (program p) ms).marks (walked b a (program p) ms).leaves
   walk_steps p ms h =
       let q = mark_classes ms p in

@@ -2,10 +2,10 @@
 use Rattle.std.proofs.Common.{◌≡◌, ◌↔◌, ℕ, zero, suc, ◌<◌, ◌≤◌, get_or, arith, Bool, true, false, ◌||◌, List, [], ◌∷◌, ◌++◌, length, Option, Some}
 use Rattle.std.proofs.Common.{None, IsTrue, not, if◌then◌else◌, refl, sym, ap, subst, ◌∙◌, true≢false}
 use Rattle.std.proofs.lemmas.List.{append_assoc, get_or_past}
-use Rattle.strkw_regex_core.specs.Tree.{Pattern}
-use Rattle.strkw_regex_core.specs.Meaning.{Found}
+use Rattle.strkw_regex_core.specs.machine.MarkedPattern.{MarkedPattern}
+use Rattle.strkw_regex_core.specs.machine.MarkedMeaning.{Found}
 use Rattle.strkw_regex_core.specs.OneCharLookahead.{are_told}
-use Rattle.strkw_regex_core.specs.Mirror.{mirror_if, along}
+use Rattle.strkw_regex_core.specs.machine.Mirror.{mirror_if, along}
 use Rattle.strkw_regex_search.specs.machine.OraclePasses.{OracleQuery, IsAside, AreAsides, IsSmall, AreSmall, SetsAside}
 use Rattle.strkw_regex_search.specs.machine.Bits.{bits_of, rows_of}
 use Rattle.strkw_regex_core.specs.machine.Positions.{leaves, step, is_unmarked}
@@ -24,11 +24,11 @@ use Rattle.strkw_regex_search.proofs.OracleCorrect.{is_sought_right}
 use Rattle.strkw_regex_search.proofs.Spread.{aside_fit}
 
 -- a turn: the next character is c, `q` has the marks told, and `r` those behind the character
-module _ (rows : List (List Bool)) (ts : List (Option ℕ)) (p : Pattern) (last : Option ℕ) (c : ℕ) (left rest : List ℕ) (begins : left ≡ c ∷ rest)
-    (ahead : ℕ) (ahead_is : ahead ≡ length left) (q : Pattern) (q_is : q ≡ told_by (row_answer rows ahead) ts p)
-    (e : Bool) (e_is : e ≡ leaves last (Some c) q true) (r : Pattern) (r_is : r ≡ step last (Some c) q true) where
+module _ (rows : List (List Bool)) (ts : List (Option ℕ)) (p : MarkedPattern) (last : Option ℕ) (c : ℕ) (left rest : List ℕ) (begins : left ≡ c ∷ rest)
+    (ahead : ℕ) (ahead_is : ahead ≡ length left) (q : MarkedPattern) (q_is : q ≡ told_by (row_answer rows ahead) ts p)
+    (e : Bool) (e_is : e ≡ leaves last (Some c) q true) (r : MarkedPattern) (r_is : r ≡ step last (Some c) q true) where
   -- the pattern with the marks that the rows tell here
-  abbrev here : Pattern
+  abbrev here : MarkedPattern
   here = told_by (row_answer rows (suc (length rest))) ts p
 
   -- the pattern that is asked is that one
@@ -37,11 +37,11 @@ module _ (rows : List (List Bool)) (ts : List (Option ℕ)) (p : Pattern) (last 
 
   -- so it is that one of which the answer tells
   answer_here : e ≡ leaves last (Some c) here true
-  answer_here = e_is ∙ ap (λ (z : Pattern). leaves last (Some c) z true) told_here
+  answer_here = e_is ∙ ap (λ (z : MarkedPattern). leaves last (Some c) z true) told_here
 
   -- and that one which goes on
   step_here : r ≡ step last (Some c) here true
-  step_here = r_is ∙ ap (λ (z : Pattern). step last (Some c) z true) told_here
+  step_here = r_is ∙ ap (λ (z : MarkedPattern). step last (Some c) z true) told_here
 
   -- one answer more, and those of the rest
   pub row_turn : (bits whole : List Bool) → bits ++ ends_from rows ts p last left ≡ whole
@@ -49,14 +49,14 @@ module _ (rows : List (List Bool)) (ts : List (Option ℕ)) (p : Pattern) (last 
   row_turn bits whole so_far =
       append_assoc bits (e ∷ []) (ends_from rows ts r (Some c) rest)
       ∙ ap (λ (b : Bool). bits ++ (b ∷ ends_from rows ts r (Some c) rest)) answer_here
-      ∙ ap (λ (z : Pattern). bits ++ (leaves last (Some c) here true ∷ ends_from rows ts z (Some c) rest)) step_here
+      ∙ ap (λ (z : MarkedPattern). bits ++ (leaves last (Some c) here true ∷ ends_from rows ts z (Some c) rest)) step_here
       ∙ sym (ap (λ (l : List ℕ). bits ++ ends_from rows ts p last l) begins) ∙ so_far
 
   -- it ends here, or else the search of the rest comes to the answer
   turned : (answer : Bool) → ends_within rows ts p last left ≡ answer → (e || ends_within rows ts r (Some c) rest) ≡ answer
   turned answer so_far =
       ap (λ (b : Bool). b || ends_within rows ts r (Some c) rest) answer_here
-      ∙ ap (λ (z : Pattern). leaves last (Some c) here true || ends_within rows ts z (Some c) rest) step_here
+      ∙ ap (λ (z : MarkedPattern). leaves last (Some c) here true || ends_within rows ts z (Some c) rest) step_here
       ∙ sym (ap (ends_within rows ts p last) begins) ∙ so_far
 
   -- where it does not end here, the search of the rest does
@@ -68,11 +68,11 @@ module _ (rows : List (List Bool)) (ts : List (Option ℕ)) (p : Pattern) (last 
   within_found answer so_far is_here = sym (ap (λ (b : Bool). b || ends_within rows ts r (Some c) rest) is_here) ∙ turned answer so_far
 
 -- at the end of the text
-module _ (rows : List (List Bool)) (ts : List (Option ℕ)) (p : Pattern) (last : Option ℕ) (left : List ℕ) (none : left ≡ [])
-    (q : Pattern) (q_is : q ≡ told_by (row_answer rows 0) ts p) (e : Bool) (e_is : e ≡ leaves last None q true) where
+module _ (rows : List (List Bool)) (ts : List (Option ℕ)) (p : MarkedPattern) (last : Option ℕ) (left : List ℕ) (none : left ≡ [])
+    (q : MarkedPattern) (q_is : q ≡ told_by (row_answer rows 0) ts p) (e : Bool) (e_is : e ≡ leaves last None q true) where
   -- the last answer is that of the marks that the rows tell there
   end_here : e ≡ leaves last None (told_by (row_answer rows 0) ts p) true
-  end_here = e_is ∙ ap (λ (z : Pattern). leaves last None z true) q_is
+  end_here = e_is ∙ ap (λ (z : MarkedPattern). leaves last None z true) q_is
 
   -- it is the last of the answers
   pub row_ends : (bits whole : List Bool) → bits ++ ends_from rows ts p last left ≡ whole → bits ++ (e ∷ []) ≡ whole
@@ -128,14 +128,14 @@ are_fit (x ∷ xs) fs [] u w = absurd u
 are_fit (x ∷ xs) fs (g ∷ gs) u w = (one_fit fs (quest x) g u.0 w.0, are_fit xs (fs ++ (g ∷ [])) gs u.1 w.1)
 
 -- a pattern that is set aside is fit
-pub set_fit : (b : Bool) (p : Pattern) (x : Seeking) (fs : List OracleQuery) (xs : List Seeking) → SetsAside b p x fs xs → IsFit x.pattern
+pub set_fit : (b : Bool) (p : MarkedPattern) (x : Seeking) (fs : List OracleQuery) (xs : List Seeking) → SetsAside b p x fs xs → IsFit x.pattern
 set_fit b p x fs xs set = one_fit (fs ++ set.added) x record { backward = b; pattern = set.made } set.is set.made_small
 
 -- what has its lookaheads told is searched for in one pass
-pub found_plain : (p q : Pattern) (b : Bool) (text : List ℕ) → are_told p ≡ true → q ≡ p
+pub found_plain : (p q : MarkedPattern) (b : Bool) (text : List ℕ) → are_told p ≡ true → q ≡ p
     → search_from q None (along b text) ≡ found_in p (along b text)
 found_plain p q b text told same =
-    ap (λ (r : Pattern). search_from r None (along b text)) same
+    ap (λ (r : MarkedPattern). search_from r None (along b text)) same
     ∙ sym (ap (λ (x : Bool). if x then search_from p None (along b text) else ends_by (begins_at (depth p) (along b text)) (along b text) p
     (length (along b text))) told)
 
@@ -145,7 +145,7 @@ along_it false t far faced = refl
 along_it true t far faced = absurd (true≢false (sym faced ∙ far))
 
 -- and the seekers of what is put aside of it find it
-pub found_told : (p : Pattern) (b : Bool) (text : List ℕ) → are_told p ≡ false → (not b || are_told p) ≡ true → is_unmarked p ≡ true
+pub found_told : (p : MarkedPattern) (b : Bool) (text : List ℕ) → are_told p ≡ false → (not b || are_told p) ≡ true → is_unmarked p ≡ true
     → (xs : List Seeking) (x : Seeking) (ys : List Seeking) (y : Seeking) → SetsAside b p x [] xs → ys ≡ xs → y ≡ x
     → is_sought ys y text ≡ found_in p (along b text)
 found_told p b text far faced bare xs x ys y set same one =

@@ -4,9 +4,10 @@ use Rattle.std.proofs.Common.{drop, drop-cons, length-drop, length-append, appen
 use Rattle.std.proofs.Common.{◌∙◌, inl, inr, ⊎_elim, true≢false, is_some, arith}
 use Rattle.std.proofs.lemmas.List.{length-reverse, reverse-reverse, append_assoc}
 use Rattle.std.proofs.lemmas.Option.{slice_get-get_or, slice_get_past, slice_get_within}
-use Rattle.strkw_regex_core.specs.Tree.{Pattern, empty, class, look, cat, alt, star, plus, lookbehind, lookahead}
-use Rattle.strkw_regex_core.specs.Meaning.{before, Matches, Found}
-use Rattle.strkw_regex_core.specs.Mirror.{along}
+use Rattle.strkw_regex_core.specs.machine.MarkedPattern.{MarkedPattern, empty, class, look, cat, alt, star, plus, lookbehind, lookahead}
+use Rattle.strkw_regex_core.specs.Meaning.{before}
+use Rattle.strkw_regex_core.specs.machine.MarkedMeaning.{Matches, Found}
+use Rattle.strkw_regex_core.specs.machine.Mirror.{along}
 use Rattle.strkw_regex_search.specs.machine.OraclePasses.{OracleQuery, IsToldAs, AreToldAs, IsAside, AreAsides}
 use Rattle.strkw_regex_core.specs.machine.Positions.{leaves, step, is_unmarked}
 use Rattle.strkw_regex_search.specs.machine.Seeking.{Seeking, row_answer, ends_from, ends_within, row_of, rows_behind, is_sought}
@@ -31,7 +32,7 @@ rest_of_cons : (c d : ℕ) (xs ys : List ℕ) → c ∷ xs ≡ d ∷ ys → xs �
 rest_of_cons c d xs ys e = ap (drop 1) e
 
 -- Here the rows say at each place what `see` says of the lookaheads.
-module _ (rows : List (List Bool)) (ts : List (Option ℕ)) (text : List ℕ) (p : Pattern) (see : ℕ → Pattern → Bool)
+module _ (rows : List (List Bool)) (ts : List (Option ℕ)) (text : List ℕ) (p : MarkedPattern) (see : ℕ → MarkedPattern → Bool)
     (said_is : (i : ℕ) → i ≤ length text → AreSaid (row_answer rows (length text - i)) (see i) ts (spots p)) where
   -- lookaheads stay what they are
   spots_at : (i : ℕ) → spots (marked_at see text p i) ≡ spots p
@@ -44,20 +45,20 @@ module _ (rows : List (List Bool)) (ts : List (Option ℕ)) (text : List ℕ) (p
   told_at i ahead e =
       let rest : length text - i ≡ ahead = omega (arith, e) in
       all_told (row_answer rows ahead) (see i) (marked_at see text p i) ts
-      (subst (λ (ss : List (Option Pattern)). AreSaid (row_answer rows ahead) (see i) ts ss) (sym (spots_at i))
+      (subst (λ (ss : List (Option MarkedPattern)). AreSaid (row_answer rows ahead) (see i) ts ss) (sym (spots_at i))
       (subst (λ (n : ℕ). AreSaid (row_answer rows n) (see i) ts (spots p)) rest (said_is i (omega (arith, e)))))
 
   module _ (i ahead : ℕ) (e : i + ahead ≡ length text) (last next : Option ℕ) (before_is : last ≡ before text i) (behind_is : next ≡ slice_get text i) where
     -- so the search ends here where the pattern does
     ends_here : leaves last next (told_by (row_answer rows ahead) ts (aside (marked_at see text p i))) true ≡ ends_at see text p i
     ends_here =
-        ap (λ (q : Pattern). leaves last next q true) (told_at i ahead e) ∙ told_leaves (see i) last next (marked_at see text p i) true
+        ap (λ (q : MarkedPattern). leaves last next q true) (told_at i ahead e) ∙ told_leaves (see i) last next (marked_at see text p i) true
         ∙ rw (before_is, behind_is) refl
 
     -- and goes on with its marks at the next place
     goes_on_here : step last next (told_by (row_answer rows ahead) ts (aside (marked_at see text p i))) true ≡ aside (marked_at see text p (suc i))
     goes_on_here =
-        ap (λ (q : Pattern). step last next q true) (told_at i ahead e) ∙ told_step (see i) last next (marked_at see text p i) true
+        ap (λ (q : MarkedPattern). step last next q true) (told_at i ahead e) ∙ told_step (see i) last next (marked_at see text p i) true
         ∙ rw (before_is, behind_is) refl
 
   -- what stands at a place of the text, and from the next on
@@ -111,7 +112,7 @@ module _ (rows : List (List Bool)) (ts : List (Option ℕ)) (text : List ℕ) (p
       (λ more.
       let next : j - i ≡ suc (j - suc i) = omega (arith, more) in
       ap (λ (n : ℕ). get_or row n false) next
-      ∙ ap (λ (r : Pattern). get_or (ends_from rows ts r (Some c) cs) (j - suc i) false)
+      ∙ ap (λ (r : MarkedPattern). get_or (ends_from rows ts r (Some c) cs) (j - suc i) false)
       (goes_on_here i (suc (length cs)) (so_far i c cs e) last (Some c) b (here i c cs e))
       ∙ row_from cs (suc i) (Some c) (passed i c cs e) (behind i c cs e) (omega (arith, inside i c cs e)) j more v)
       (same_or_behind i j w)
@@ -135,7 +136,7 @@ module _ (rows : List (List Bool)) (ts : List (Option ℕ)) (text : List ℕ) (p
       let more = ends_within rows ts (step last (Some c) q true) (Some c) cs in
       let is : one ≡ ends_at see text p i = ends_here i (suc (length cs)) (so_far i c cs e) last (Some c) b (here i c cs e) in
       let rest : (more ≡ true) ↔ EndsFrom (suc i) =
-      subst (λ (r : Pattern). (ends_within rows ts r (Some c) cs ≡ true) ↔ EndsFrom (suc i))
+      subst (λ (r : MarkedPattern). (ends_within rows ts r (Some c) cs ≡ true) ↔ EndsFrom (suc i))
       (sym (goes_on_here i (suc (length cs)) (so_far i c cs e) last (Some c) b (here i c cs e)))
       (within_from cs (suc i) (Some c) (passed i c cs e) (behind i c cs e) (omega (arith, inside i c cs e))) in (
         λ t. ⊎_elim (λ now. (i, omega arith, h, sym is ∙ now)) (λ later. let f = rest.0 later in (f.0, omega (arith, f.1), f.2, f.3)) (or_case one more t),
@@ -150,19 +151,19 @@ AreRows chars rows fs = (k : ℕ) (f : OracleQuery) → slice_get fs k ≡ Some 
     → (get_or (get_or rows k []) j false ≡ true) ↔ ((m : ℕ) × Matches (along f.backward chars) f.pattern m j)
 
 -- what lookaheads look for has no marks, and fewer lookarounds in one another than n
-abbrev AreFew : ℕ → List (Option Pattern) → Type 0
+abbrev AreFew : ℕ → List (Option MarkedPattern) → Type 0
 AreFew n [] = Unit {0}
 AreFew n (None ∷ ss) = AreFew n ss
 AreFew n (Some r ∷ ss) = (is_unmarked r ≡ true) × (depth r < n) × AreFew n ss
 
 -- of two lists, where it is so of both
-few_append : (n : ℕ) (ss rs : List (Option Pattern)) → AreFew n ss → AreFew n rs → AreFew n (ss ++ rs)
+few_append : (n : ℕ) (ss rs : List (Option MarkedPattern)) → AreFew n ss → AreFew n rs → AreFew n (ss ++ rs)
 few_append n [] rs u w = w
 few_append n (None ∷ ss) rs u w = few_append n ss rs u w
 few_append n (Some r ∷ ss) rs u w = (u.0, u.1, few_append n ss rs u.2 w)
 
 -- it is so of the lookaheads of a pattern
-few_spots : (n : ℕ) (p : Pattern) → is_unmarked p ≡ true → depth p ≤ n → AreFew n (spots p)
+few_spots : (n : ℕ) (p : MarkedPattern) → is_unmarked p ≡ true → depth p ≤ n → AreFew n (spots p)
 few_spots n empty h w = tt
 few_spots n (class m b rs) h w = tt
 few_spots n (look l) h w = tt
@@ -193,7 +194,7 @@ module _ (chars : List ℕ) (rows : List (List Bool)) (fs : List OracleQuery) (r
   T = along b chars
 
   -- the answer of a row is what is said of the lookahead that it is for
-  one_said : (k : ℕ) (r : Pattern) → IsToldAs fs b (Some k) (Some r) → is_unmarked r ≡ true → depth r < n → (i : ℕ) → i ≤ length chars
+  one_said : (k : ℕ) (r : MarkedPattern) → IsToldAs fs b (Some k) (Some r) → is_unmarked r ≡ true → depth r < n → (i : ℕ) → i ≤ length chars
       → row_answer rows (length chars - i) k ≡ begins_at n T i r
   one_said k r (f, at, way, alike) bare few i h =
       let long = along_length b chars in
@@ -218,7 +219,7 @@ module _ (chars : List ℕ) (rows : List (List Bool)) (fs : List OracleQuery) (r
       same_answer ((m : ℕ) × Matches T r i m) _ _ (λ x. turned.0 (row.0 x), λ m. row.1 (turned.1 m)) seen
 
   -- and so of each
-  pub all_said : (ts : List (Option ℕ)) (ss : List (Option Pattern)) → AreToldAs fs b ts ss → AreFew n ss → (i : ℕ) → i ≤ length chars
+  pub all_said : (ts : List (Option ℕ)) (ss : List (Option MarkedPattern)) → AreToldAs fs b ts ss → AreFew n ss → (i : ℕ) → i ≤ length chars
       → AreSaid (row_answer rows (length chars - i)) (begins_at n T i) ts ss
   all_said [] [] u w i h = tt
   all_said [] (s ∷ ss) u w i h = absurd u
@@ -235,7 +236,7 @@ module _ (chars : List ℕ) (fs : List OracleQuery) (x : Seeking) (f : OracleQue
   U = along f.backward chars
 
   -- what the text says of a lookahead at a place
-  abbrev see : ℕ → Pattern → Bool
+  abbrev see : ℕ → MarkedPattern → Bool
   see = begins_at (depth f.pattern) U
 
   -- what the rows say of its lookaheads is so
@@ -259,7 +260,7 @@ module _ (chars : List ℕ) (fs : List OracleQuery) (x : Seeking) (f : OracleQue
       let within : j ≤ length U = omega (arith, h, long) in
       let first : j - 0 ≡ j = omega arith in
       let same : get_or (row_of rows chars x) j false ≡ ends_at see U f.pattern j =
-      ap (λ (q : Pattern). get_or (ends_from rows x.told q None (along x.backward chars)) j false) is.slotted
+      ap (λ (q : MarkedPattern). get_or (ends_from rows x.told q None (along x.backward chars)) j false) is.slotted
       ∙ ap (λ (b : Bool). get_or (ends_from rows x.told (aside f.pattern) None (along b chars)) j false) is.backward
       ∙ ap (λ (n : ℕ). get_or (ends_from rows x.told (aside f.pattern) None U) n false) (sym first)
       ∙ row_from rows x.told U f.pattern see saying U 0 None refl refl (omega arith) j (omega arith) within in
@@ -270,7 +271,7 @@ module _ (chars : List ℕ) (fs : List OracleQuery) (x : Seeking) (f : OracleQue
   pub sought_right : (ends_within rows x.told x.pattern None (along x.backward chars) ≡ true) ↔ Found f.pattern U
   sought_right =
       let same : ends_within rows x.told x.pattern None (along x.backward chars) ≡ ends_within rows x.told (aside f.pattern) None U =
-      ap (λ (q : Pattern). ends_within rows x.told q None (along x.backward chars)) is.slotted
+      ap (λ (q : MarkedPattern). ends_within rows x.told q None (along x.backward chars)) is.slotted
       ∙ ap (λ (b : Bool). ends_within rows x.told (aside f.pattern) None (along b chars)) is.backward in
       let within = within_from rows x.told U f.pattern see saying U 0 None refl refl (omega arith) in (
         λ e. let w = within.0 (sym same ∙ e) in let m = (ends_so w.0 w.2).0 w.3 in

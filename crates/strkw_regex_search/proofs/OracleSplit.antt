@@ -2,10 +2,11 @@
 use Rattle.std.proofs.Common.{◌≡◌, ℕ, zero, suc, ◌+◌, ◌-◌, max, Bool, true, false, not, ◌||◌, if◌then◌else◌, List, [], ◌∷◌, ◌++◌, length, Option}
 use Rattle.std.proofs.Common.{Some, None, slice_get, refl, sym, ap, subst, ◌∙◌, append-nil, true≢false, is_some, ◌==◌, arith}
 use Rattle.std.proofs.lemmas.List.{append_assoc}
-use Rattle.strkw_regex_core.specs.Tree.{start, end, boundary, no_boundary, Pattern, empty, class, look, cat, alt, star, plus, lookbehind, lookahead}
-use Rattle.strkw_regex_core.specs.Mirror.{mirror, mirror_if}
-use Rattle.strkw_regex_core.specs.Times.{Times, any_times, some_times, once_at_most, exact_times, least_times, range_times, repetition}
-use Rattle.strkw_regex_core.specs.Times.{quantified_pattern}
+use Rattle.strkw_regex_core.specs.Tree.{start, end, boundary, no_boundary}
+use Rattle.strkw_regex_core.specs.machine.MarkedPattern.{MarkedPattern, empty, class, look, cat, alt, star, plus, lookbehind, lookahead}
+use Rattle.strkw_regex_core.specs.machine.Mirror.{mirror, mirror_if}
+use Rattle.strkw_regex_core.specs.machine.Times.{Times, any_times, some_times, once_at_most, exact_times, least_times, range_times, repetition}
+use Rattle.strkw_regex_core.specs.machine.Times.{quantified_pattern}
 use Rattle.strkw_regex_core.specs.Program.{is_empty, concat_copies}
 use Rattle.strkw_regex_search.specs.machine.OraclePasses.{OracleQuery, IsToldAs, AreToldAs, IsAside, AreAsides, IsSmall, AreSmall, Puts, PutsAside, PutsLook}
 use Rattle.strkw_regex_search.specs.machine.OraclePasses.{SetsAside, TellsAside}
@@ -34,21 +35,21 @@ at_end (y ∷ xs) x = at_end xs x
 
 -- numbers
 -- they say the same with more quests
-one_more : (fs gs : List OracleQuery) (b : Bool) (t : Option ℕ) (s : Option Pattern) → IsToldAs fs b t s → IsToldAs (fs ++ gs) b t s
+one_more : (fs gs : List OracleQuery) (b : Bool) (t : Option ℕ) (s : Option MarkedPattern) → IsToldAs fs b t s → IsToldAs (fs ++ gs) b t s
 one_more fs gs b None None u = tt
 one_more fs gs b None (Some p) u = absurd u
 one_more fs gs b (Some k) None u = absurd u
 one_more fs gs b (Some k) (Some p) u = (u.0, at_front fs gs k u.0 u.1, u.2, u.3)
 
 -- so do many with more quests
-pub told_more : (fs gs : List OracleQuery) (b : Bool) (ts : List (Option ℕ)) (ss : List (Option Pattern)) → AreToldAs fs b ts ss → AreToldAs (fs ++ gs) b ts ss
+pub told_more : (fs gs : List OracleQuery) (b : Bool) (ts : List (Option ℕ)) (ss : List (Option MarkedPattern)) → AreToldAs fs b ts ss → AreToldAs (fs ++ gs) b ts ss
 told_more fs gs b [] [] u = tt
 told_more fs gs b [] (s ∷ ss) u = absurd u
 told_more fs gs b (t ∷ ts) [] u = absurd u
 told_more fs gs b (t ∷ ts) (s ∷ ss) u = (one_more fs gs b t s u.0, told_more fs gs b ts ss u.1)
 
 -- lists of them one behind another
-pub told_append : (fs : List OracleQuery) (b : Bool) (ts us : List (Option ℕ)) (ss rs : List (Option Pattern)) → AreToldAs fs b ts ss → AreToldAs fs b us rs
+pub told_append : (fs : List OracleQuery) (b : Bool) (ts us : List (Option ℕ)) (ss rs : List (Option MarkedPattern)) → AreToldAs fs b ts ss → AreToldAs fs b us rs
     → AreToldAs fs b (ts ++ us) (ss ++ rs)
 told_append fs b [] us [] rs u w = w
 told_append fs b [] us (s ∷ ss) rs u w = absurd u
@@ -56,15 +57,15 @@ told_append fs b (t ∷ ts) us [] rs u w = absurd u
 told_append fs b (t ∷ ts) us (s ∷ ss) rs u w = (u.0, told_append fs b ts us ss rs u.1 w)
 
 -- and so often
-told_copies : (n : ℕ) (fs : List OracleQuery) (b : Bool) (ts : List (Option ℕ)) (ss : List (Option Pattern)) → AreToldAs fs b ts ss
+told_copies : (n : ℕ) (fs : List OracleQuery) (b : Bool) (ts : List (Option ℕ)) (ss : List (Option MarkedPattern)) → AreToldAs fs b ts ss
     → AreToldAs fs b (concat_copies n ts) (concat_copies n ss)
 told_copies zero fs b ts ss u = tt
 told_copies (suc n) fs b ts ss u = told_append fs b ts (concat_copies n ts) ss (concat_copies n ss) u (told_copies n fs b ts ss u)
 
 -- spots of what is repeated
-copies_spots : (n : ℕ) (p : Pattern) → spots (repetition n p) ≡ concat_copies n (spots p)
+copies_spots : (n : ℕ) (p : MarkedPattern) → spots (repetition n p) ≡ concat_copies n (spots p)
 copies_spots zero p = refl
-copies_spots (suc n) p = ap (λ (ss : List (Option Pattern)). spots p ++ ss) (copies_spots n p)
+copies_spots (suc n) p = ap (λ (ss : List (Option MarkedPattern)). spots p ++ ss) (copies_spots n p)
 
 -- copies and more copies
 copied_more : {A : Type 0} (n m : ℕ) (xs : List A) → concat_copies n xs ++ concat_copies m xs ≡ concat_copies (n + m) xs
@@ -78,34 +79,34 @@ copied_once : {A : Type 0} (xs : List A) → xs ≡ concat_copies 1 xs
 copied_once xs = sym (append-nil xs)
 
 -- the spots of a pattern with a quantifier are as many copies of its spots as it is copied
-pub times_spots : (t : Times) (p : Pattern) → spots (quantified_pattern t p) ≡ concat_copies (all_copies t) (spots p)
+pub times_spots : (t : Times) (p : MarkedPattern) → spots (quantified_pattern t p) ≡ concat_copies (all_copies t) (spots p)
 times_spots any_times p = copied_once (spots p)
 times_spots some_times p = copied_once (spots p)
 times_spots once_at_most p = copied_once (spots p)
 times_spots (exact_times n) p = copies_spots n p
 times_spots (least_times n) p =
-    ap (λ (ss : List (Option Pattern)). ss ++ spots p) (copies_spots n p)
-    ∙ ap (λ (ss : List (Option Pattern)). concat_copies n (spots p) ++ ss) (copied_once (spots p)) ∙ copied_more n 1 (spots p)
+    ap (λ (ss : List (Option MarkedPattern)). ss ++ spots p) (copies_spots n p)
+    ∙ ap (λ (ss : List (Option MarkedPattern)). concat_copies n (spots p) ++ ss) (copied_once (spots p)) ∙ copied_more n 1 (spots p)
 times_spots (range_times n m) p =
     let all : n + (m - n) ≡ max n m = omega arith in
-    ap (λ (ss : List (Option Pattern)). ss ++ spots (repetition (m - n) (alt empty p))) (copies_spots n p)
-    ∙ ap (λ (ss : List (Option Pattern)). concat_copies n (spots p) ++ ss) (copies_spots (m - n) (alt empty p)) ∙ copied_more n (m - n) (spots p)
+    ap (λ (ss : List (Option MarkedPattern)). ss ++ spots (repetition (m - n) (alt empty p))) (copies_spots n p)
+    ∙ ap (λ (ss : List (Option MarkedPattern)). concat_copies n (spots p) ++ ss) (copies_spots (m - n) (alt empty p)) ∙ copied_more n (m - n) (spots p)
     ∙ ap (λ (k : ℕ). concat_copies k (spots p)) all
 
 -- what is repeated, with its lookaheads put aside, is what it repeats with them put aside, repeated
-copies_aside : (n : ℕ) (p : Pattern) → aside (repetition n p) ≡ repetition n (aside p)
+copies_aside : (n : ℕ) (p : MarkedPattern) → aside (repetition n p) ≡ repetition n (aside p)
 copies_aside zero p = refl
 copies_aside (suc n) p = ap (cat (aside p)) (copies_aside n p)
 
 -- and with none of the marks set it is the pattern with none set, with the quantifier
-pub times_aside : (t : Times) (p : Pattern) → aside (quantified_pattern t p) ≡ quantified_pattern t (aside p)
+pub times_aside : (t : Times) (p : MarkedPattern) → aside (quantified_pattern t p) ≡ quantified_pattern t (aside p)
 times_aside any_times p = refl
 times_aside some_times p = refl
 times_aside once_at_most p = refl
 times_aside (exact_times n) p = copies_aside n p
-times_aside (least_times n) p = ap (λ (q : Pattern). cat q (star (aside p))) (copies_aside n p)
+times_aside (least_times n) p = ap (λ (q : MarkedPattern). cat q (star (aside p))) (copies_aside n p)
 times_aside (range_times n m) p =
-    ap (λ (q : Pattern). cat q (aside (repetition (m - n) (alt empty p)))) (copies_aside n p)
+    ap (λ (q : MarkedPattern). cat q (aside (repetition (m - n) (alt empty p)))) (copies_aside n p)
     ∙ ap (cat (repetition n (aside p))) (copies_aside (m - n) (alt empty p))
 
 -- there are as many asides as quests
@@ -137,7 +138,7 @@ or_turned false true = refl
 or_turned false false = refl
 
 -- a mirror's mirror is the pattern
-pub mirror_twice : (p : Pattern) → mirror (mirror p) ≡ p
+pub mirror_twice : (p : MarkedPattern) → mirror (mirror p) ≡ p
 mirror_twice empty = refl
 mirror_twice (class m n rs) = refl
 mirror_twice (look start) = refl
@@ -159,36 +160,36 @@ mirror_twice (cat p q) = by_test (is_empty p || is_empty q) refl (mirror_twice p
         → mirror (if b then cat (mirror p) (mirror q) else cat (mirror q) (mirror p)) ≡ cat p q
     by_test true e u w =
         ap (λ (x : Bool). if x then cat (mirror (mirror p)) (mirror (mirror q)) else cat (mirror (mirror q)) (mirror (mirror p))) (same_test ∙ e)
-        ∙ ap (λ (r : Pattern). cat r (mirror (mirror q))) u ∙ ap (cat p) w
+        ∙ ap (λ (r : MarkedPattern). cat r (mirror (mirror q))) u ∙ ap (cat p) w
     by_test false e u w =
         ap (λ (x : Bool). if x then cat (mirror (mirror q)) (mirror (mirror p)) else cat (mirror (mirror p)) (mirror (mirror q))) (same_turned ∙ e)
-        ∙ ap (λ (r : Pattern). cat r (mirror (mirror q))) u ∙ ap (cat p) w
-mirror_twice (alt p q) = ap (λ (r : Pattern). alt r (mirror (mirror q))) (mirror_twice p) ∙ ap (alt p) (mirror_twice q)
+        ∙ ap (λ (r : MarkedPattern). cat r (mirror (mirror q))) u ∙ ap (cat p) w
+mirror_twice (alt p q) = ap (λ (r : MarkedPattern). alt r (mirror (mirror q))) (mirror_twice p) ∙ ap (alt p) (mirror_twice q)
 mirror_twice (star p) = ap star (mirror_twice p)
 mirror_twice (plus p) = ap plus (mirror_twice p)
 mirror_twice (lookbehind n p) = ap (lookbehind n) (mirror_twice p)
 mirror_twice (lookahead n p) = ap (lookahead n) (mirror_twice p)
 
 -- so what is looked for from the other end is the mirror of what is looked for from this one
-pub other_facing : (b : Bool) (p : Pattern) → mirror_if (not b) p ≡ mirror (mirror_if b p)
+pub other_facing : (b : Bool) (p : MarkedPattern) → mirror_if (not b) p ≡ mirror (mirror_if b p)
 other_facing false p = refl
 other_facing true p = sym (mirror_twice p)
 
 -- what is repeated is so from either end
-pub times_facing : (b : Bool) (t : Times) (p made : Pattern) → EquivalentPatterns made (mirror_if b p)
+pub times_facing : (b : Bool) (t : Times) (p made : MarkedPattern) → EquivalentPatterns made (mirror_if b p)
     → EquivalentPatterns (quantified_pattern t made) (mirror_if b (quantified_pattern t p))
 times_facing false t p made u = alike_times t made p u
 times_facing true t p made u = counted_mirror t p made u
 
 -- and so are alternatives
-pub alt_facing : (b : Bool) (p q : Pattern) → mirror_if b (alt p q) ≡ alt (mirror_if b p) (mirror_if b q)
+pub alt_facing : (b : Bool) (p q : MarkedPattern) → mirror_if b (alt p q) ≡ alt (mirror_if b p) (mirror_if b q)
 alt_facing false p q = refl
 alt_facing true p q = refl
 
 -- what is left of a pattern
 module _ (b : Bool) (fs : List OracleQuery) where
   -- of one without lookaheads
-  pub none_put : (made sought o : Pattern) (xs : List Seeking) (old more new : List (Option ℕ)) → AreAsides [] xs fs → EquivalentPatterns made sought
+  pub none_put : (made sought o : MarkedPattern) (xs : List Seeking) (old more new : List (Option ℕ)) → AreAsides [] xs fs → EquivalentPatterns made sought
       → o ≡ aside made → AreToldAs fs b more (spots made) → new ≡ old ++ more → Puts b sought o fs xs old new
   none_put made sought o xs old more new are like slotted told numbers = record {
     added = [];
@@ -203,7 +204,7 @@ module _ (b : Bool) (fs : List OracleQuery) where
   }
 
   -- of two, one after the other
-  module _ (p q o r s : Pattern) (xs ys : List Seeking) (old mid new : List (Option ℕ)) (first : Puts b p o fs xs old mid)
+  module _ (p q o r s : MarkedPattern) (xs ys : List Seeking) (old mid new : List (Option ℕ)) (first : Puts b p o fs xs old mid)
       (second : Puts b q r (fs ++ first.added) ys mid new) where
     both_asides : AreAsides [] ys (fs ++ (first.added ++ second.added))
     both_asides = subst (AreAsides [] ys) (append_assoc fs first.added second.added) second.asides
@@ -226,7 +227,7 @@ module _ (b : Bool) (fs : List OracleQuery) where
       asides = both_asides;
       made = cat first.made second.made;
       alike = alike_cat _ _ _ _ first.alike second.alike;
-      slotted = is ∙ ap (λ (z : Pattern). cat z r) first.slotted ∙ ap (cat (aside first.made)) second.slotted;
+      slotted = is ∙ ap (λ (z : MarkedPattern). cat z r) first.slotted ∙ ap (cat (aside first.made)) second.slotted;
       more = first.more ++ second.more;
       numbers = both_numbers;
       told = both_told;
@@ -239,14 +240,14 @@ module _ (b : Bool) (fs : List OracleQuery) where
       asides = both_asides;
       made = alt first.made second.made;
       alike = alike_alt _ _ _ _ first.alike second.alike;
-      slotted = is ∙ ap (λ (z : Pattern). alt z r) first.slotted ∙ ap (alt (aside first.made)) second.slotted;
+      slotted = is ∙ ap (λ (z : MarkedPattern). alt z r) first.slotted ∙ ap (alt (aside first.made)) second.slotted;
       more = first.more ++ second.more;
       numbers = both_numbers;
       told = both_told;
     }
 
   -- of what is repeated, with the numbers of one copy
-  pub times_put : (t : Times) (p o s : Pattern) (xs : List Seeking) (own old new : List (Option ℕ)) → Puts b (mirror_if b p) o fs xs [] own
+  pub times_put : (t : Times) (p o s : MarkedPattern) (xs : List Seeking) (own old new : List (Option ℕ)) → Puts b (mirror_if b p) o fs xs [] own
       → new ≡ old ++ concat_copies (all_copies t) own → s ≡ quantified_pattern t o → Puts b (mirror_if b (quantified_pattern t p)) s fs xs old new
   times_put t p o s xs own old new one numbers is =
       let told = told_copies (all_copies t) (fs ++ one.added) b one.more (spots one.made) one.told in
@@ -263,7 +264,7 @@ module _ (b : Bool) (fs : List OracleQuery) where
       }
 
   -- of a lookbehind
-  pub behind_put : (n : Bool) (p o s : Pattern) (xs : List Seeking) (old new : List (Option ℕ)) → Puts b p o fs xs old new
+  pub behind_put : (n : Bool) (p o s : MarkedPattern) (xs : List Seeking) (old new : List (Option ℕ)) → Puts b p o fs xs old new
       → s ≡ lookbehind n o → Puts b (lookbehind n p) s fs xs old new
   behind_put n p o s xs old new one is = record {
     added = one.added;
@@ -278,7 +279,7 @@ module _ (b : Bool) (fs : List OracleQuery) where
   }
 
   -- of a lookahead, which gets a number
-  pub ahead_put : (n : Bool) (p s : Pattern) (k : ℕ) (xs : List Seeking) (old new : List (Option ℕ)) → TellsAside (not b) p k fs xs
+  pub ahead_put : (n : Bool) (p s : MarkedPattern) (k : ℕ) (xs : List Seeking) (old new : List (Option ℕ)) → TellsAside (not b) p k fs xs
       → new ≡ old ++ (Some k ∷ []) → s ≡ slot n false → Puts b (lookahead n (mirror_if b p)) s fs xs old new
   ahead_put n p s k xs old new one numbers is = record {
     added = one.added;
@@ -296,7 +297,7 @@ module _ (b : Bool) (fs : List OracleQuery) where
   }
 
   -- what is set aside gets the next number
-  pub number_set : (p : Pattern) (x : Seeking) (xs ys : List Seeking) (k : ℕ) → SetsAside b p x fs xs → k ≡ length xs → ys ≡ xs ++ (x ∷ [])
+  pub number_set : (p : MarkedPattern) (x : Seeking) (xs ys : List Seeking) (k : ℕ) → SetsAside b p x fs xs → k ≡ length xs → ys ≡ xs ++ (x ∷ [])
       → TellsAside b p k fs ys
   number_set p x xs ys k one k_is ys_are =
       let f : OracleQuery = record { backward = b; pattern = one.made } in
@@ -315,7 +316,7 @@ module _ (b : Bool) (fs : List OracleQuery) where
       }
 
   -- and what is left of a pattern is set aside
-  pub set_put : (p o : Pattern) (x : Seeking) (xs : List Seeking) (new : List (Option ℕ)) → Puts b (mirror_if b p) o fs xs [] new → is_unmarked p ≡ true
+  pub set_put : (p o : MarkedPattern) (x : Seeking) (xs : List Seeking) (new : List (Option ℕ)) → Puts b (mirror_if b p) o fs xs [] new → is_unmarked p ≡ true
       → IsSmall p → x.backward ≡ b → x.pattern ≡ o → x.told ≡ new → SetsAside b p x fs xs
   set_put p o x xs new one bare small way pattern_is told_is = record {
     added = one.added;
@@ -334,19 +335,19 @@ module _ (b : Bool) (fs : List OracleQuery) where
 
 -- by which way a search goes
 -- a lookbehind is one for what is behind the search along the text, or ahead of that from its end on
-pub behind_faced : (b n : Bool) (p o : Pattern) (fs : List OracleQuery) (xs : List Seeking) (old new : List (Option ℕ))
+pub behind_faced : (b n : Bool) (p o : MarkedPattern) (fs : List OracleQuery) (xs : List Seeking) (old new : List (Option ℕ))
     → PutsLook b n b p o fs xs old new → PutsAside b (lookbehind n p) o fs xs old new
 behind_faced false n p o fs xs old new u = u
 behind_faced true n p o fs xs old new u = u
 
 -- and a lookahead is so the other way round
-pub ahead_faced : (b n : Bool) (p o : Pattern) (fs : List OracleQuery) (xs : List Seeking) (old new : List (Option ℕ))
+pub ahead_faced : (b n : Bool) (p o : MarkedPattern) (fs : List OracleQuery) (xs : List Seeking) (old new : List (Option ℕ))
     → PutsLook (not b) n b p o fs xs old new → PutsAside b (lookahead n p) o fs xs old new
 ahead_faced false n p o fs xs old new u = u
 ahead_faced true n p o fs xs old new u = u
 
 -- what takes no copy of what it repeats is the same, whatever that is
-pub never_copied : (t : Times) (p : Pattern) → is_never t ≡ true → quantified_pattern t empty ≡ aside (quantified_pattern t p)
+pub never_copied : (t : Times) (p : MarkedPattern) → is_never t ≡ true → quantified_pattern t empty ≡ aside (quantified_pattern t p)
 never_copied any_times p h = absurd (true≢false (sym h))
 never_copied some_times p h = absurd (true≢false (sym h))
 never_copied once_at_most p h = absurd (true≢false (sym h))
@@ -358,7 +359,7 @@ never_copied (range_times zero (suc m)) p h = absurd (no_copy m h)
 never_copied (range_times (suc n) m) p h = absurd (no_copy n (and_left (suc n == 0) _ h))
 
 -- and has no class
-pub never_spots : (t : Times) (p : Pattern) → is_never t ≡ true → spots (quantified_pattern t p) ≡ []
+pub never_spots : (t : Times) (p : MarkedPattern) → is_never t ≡ true → spots (quantified_pattern t p) ≡ []
 never_spots any_times p h = absurd (true≢false (sym h))
 never_spots some_times p h = absurd (true≢false (sym h))
 never_spots once_at_most p h = absurd (true≢false (sym h))

@@ -3,12 +3,13 @@
 use Rattle.std.proofs.Common.{◌≡◌, ℕ, zero, suc, ◌+◌, ◌-◌, ◌≤◌, Bool, true, false, not, ◌&&◌, ◌==◌, if◌then◌else◌, List, [], ◌∷◌, ◌++◌, Option, Some}
 use Rattle.std.proofs.Common.{None, Vec, Box, Global, refl, sym, ap, subst, ◌∙◌, append-nil, true≢false, arith}
 use Rattle.std.proofs.lemmas.Bool.Decides.{nat_tests}
-use Rattle.strkw_regex_core.specs.Tree.{start, end, boundary, no_boundary, Look, Pattern, empty, class, look, cat, alt, star, plus, lookbehind}
-use Rattle.strkw_regex_core.specs.Tree.{lookahead}
+use Rattle.strkw_regex_core.specs.Tree.{start, end, boundary, no_boundary, Look}
+use Rattle.strkw_regex_core.specs.machine.MarkedPattern.{MarkedPattern, empty, class, look, cat, alt, star, plus, lookbehind}
+use Rattle.strkw_regex_core.specs.machine.MarkedPattern.{lookahead}
 use Rattle.strkw_charset.specs.declared.tree.CharSet.{CharSet}
-use Rattle.strkw_regex_core.specs.Mirror.{mirror_if}
-use Rattle.strkw_regex_core.specs.Times.{Times, any_times, some_times, once_at_most, exact_times, least_times, range_times, repetition}
-use Rattle.strkw_regex_core.specs.Times.{quantified_pattern}
+use Rattle.strkw_regex_core.specs.machine.Mirror.{mirror_if}
+use Rattle.strkw_regex_core.specs.machine.Times.{Times, any_times, some_times, once_at_most, exact_times, least_times, range_times, repetition}
+use Rattle.strkw_regex_core.specs.machine.Times.{quantified_pattern}
 use Rattle.strkw_regex_core.specs.Program.{is_class, is_empty, alternatives, concat_copies}
 use Rattle.strkw_regex_core.specs.Size.{steps_of, steps, spread, max_steps}
 use Rattle.strkw_regex_search.specs.machine.OraclePasses.{OracleQuery, AreToldAs, AreAsides, IsSmall, Puts, PutsAside, PutsBoth, PutsLook, SetsAside, TellsAside}
@@ -41,28 +42,28 @@ some_left n = grind (arith, nat_tests)
 
 -- what a pattern asks of its parts
 -- that no class bears a mark
-pub cat_bare : (whole p q : Pattern) → whole ≡ cat p q → is_unmarked whole ≡ true → (is_unmarked p ≡ true) × (is_unmarked q ≡ true)
+pub cat_bare : (whole p q : MarkedPattern) → whole ≡ cat p q → is_unmarked whole ≡ true → (is_unmarked p ≡ true) × (is_unmarked q ≡ true)
 cat_bare whole p q is h =
     let both : (is_unmarked p && is_unmarked q) ≡ true = sym (ap is_unmarked is) ∙ h in
     (and_left _ _ both, and_right (is_unmarked p) _ both)
 
 -- both alternatives of a pattern without marks have none
-pub alt_bare : (whole p q : Pattern) → whole ≡ alt p q → is_unmarked whole ≡ true → (is_unmarked p ≡ true) × (is_unmarked q ≡ true)
+pub alt_bare : (whole p q : MarkedPattern) → whole ≡ alt p q → is_unmarked whole ≡ true → (is_unmarked p ≡ true) × (is_unmarked q ≡ true)
 alt_bare whole p q is h =
     let both : (is_unmarked p && is_unmarked q) ≡ true = sym (ap is_unmarked is) ∙ h in
     (and_left _ _ both, and_right (is_unmarked p) _ both)
 
 -- a sequence without marks has none in the other order
-pub turned_bare : (whole p q : Pattern) → whole ≡ cat p q → is_unmarked whole ≡ true → is_unmarked (cat q p) ≡ true
+pub turned_bare : (whole p q : MarkedPattern) → whole ≡ cat p q → is_unmarked whole ≡ true → is_unmarked (cat q p) ≡ true
 turned_bare whole p q is h = let both = cat_bare whole p q is h in and_true _ _ both.1 both.0
 
 -- of copies, where there is one, and of what may be missing
-copies_bare : (n : ℕ) (p : Pattern) → (n == 0) ≡ false → is_unmarked (repetition n p) ≡ true → is_unmarked p ≡ true
+copies_bare : (n : ℕ) (p : MarkedPattern) → (n == 0) ≡ false → is_unmarked (repetition n p) ≡ true → is_unmarked p ≡ true
 copies_bare zero p some h = absurd (true≢false some)
 copies_bare (suc n) p some h = and_left _ _ h
 
 -- what a quantifier stands behind has no mark where the whole has none, and it is not left out
-times_bare : (t : Times) (p : Pattern) → is_never t ≡ false → is_unmarked (quantified_pattern t p) ≡ true → is_unmarked p ≡ true
+times_bare : (t : Times) (p : MarkedPattern) → is_never t ≡ false → is_unmarked (quantified_pattern t p) ≡ true → is_unmarked p ≡ true
 times_bare any_times p some h = h
 times_bare some_times p some h = h
 times_bare once_at_most p some h = h
@@ -73,12 +74,12 @@ times_bare (range_times zero (suc m)) p some h = copies_bare (suc m - zero) (alt
 times_bare (range_times (suc n) m) p some h = and_left _ _ (and_left (is_unmarked (repetition (suc n) p)) _ h)
 
 -- the same of a pattern that equals such a whole
-pub repeated_bare : (t : Times) (whole p : Pattern) → whole ≡ quantified_pattern t p → is_never t ≡ false → is_unmarked whole ≡ true → is_unmarked p ≡ true
+pub repeated_bare : (t : Times) (whole p : MarkedPattern) → whole ≡ quantified_pattern t p → is_never t ≡ false → is_unmarked whole ≡ true → is_unmarked p ≡ true
 repeated_bare t whole p is some h = times_bare t p some (sym (ap is_unmarked is) ∙ h)
 
 -- that it is small
 -- what stands among alternatives takes at most three steps more alone
-beside_most : (p : Pattern) → steps p ≤ steps_of (alternatives p) + 3
+beside_most : (p : MarkedPattern) → steps p ≤ steps_of (alternatives p) + 3
 beside_most empty = omega arith
 beside_most (class m n rs) = omega arith
 beside_most (look l) = omega arith
@@ -94,10 +95,10 @@ beside_most (lookbehind n p) = omega arith
 beside_most (lookahead n p) = omega arith
 
 -- each of two alternatives takes no more steps than both
-one_most : (p q : Pattern) → steps p ≤ steps (alt p q)
+one_most : (p q : MarkedPattern) → steps p ≤ steps (alt p q)
 one_most p q = by_option (is_empty p && is_class q) refl
   where
-    none : (z : Pattern) → is_empty z ≡ true → steps z ≡ 0
+    none : (z : MarkedPattern) → is_empty z ≡ true → steps z ≡ 0
     none z e = ap steps (nothing_is z e)
 
     by_option : (b : Bool) → (is_empty p && is_class q) ≡ b → steps p ≤ steps (alt p q)
@@ -105,7 +106,7 @@ one_most p q = by_option (is_empty p && is_class q) refl
     by_option false e = omega (arith, alt_steps p q e, beside_most p)
 
 -- the second of two alternatives has at most the steps of both
-other_most : (p q : Pattern) → steps q ≤ steps (alt p q)
+other_most : (p q : MarkedPattern) → steps q ≤ steps (alt p q)
 other_most p q = by_option (is_empty p && is_class q) refl
   where
     by_option : (b : Bool) → (is_empty p && is_class q) ≡ b → steps q ≤ steps (alt p q)
@@ -113,7 +114,7 @@ other_most p q = by_option (is_empty p && is_class q) refl
     by_option false e = omega (arith, alt_steps p q e)
 
 -- and what is repeated takes no more than what repeats it
-star_most : (p : Pattern) → steps p ≤ steps (star p)
+star_most : (p : MarkedPattern) → steps p ≤ steps (star p)
 star_most p = by_class (is_class p) refl
   where
     by_class : (b : Bool) → is_class p ≡ b → steps p ≤ steps (star p)
@@ -121,7 +122,7 @@ star_most p = by_class (is_class p) refl
     by_class false e = omega (arith, star_steps p e)
 
 -- a pattern has at most the steps that it has once or more
-plus_most : (p : Pattern) → steps p ≤ steps (plus p)
+plus_most : (p : MarkedPattern) → steps p ≤ steps (plus p)
 plus_most p = by_class (is_class p) refl
   where
     by_class : (b : Bool) → is_class p ≡ b → steps p ≤ steps (plus p)
@@ -129,12 +130,12 @@ plus_most p = by_class (is_class p) refl
     by_class false e = omega (arith, plus_steps p e)
 
 -- a pattern has at most the steps of its copies, where there is one
-copies_most : (n : ℕ) (p : Pattern) → (n == 0) ≡ false → steps p ≤ steps (repetition n p)
+copies_most : (n : ℕ) (p : MarkedPattern) → (n == 0) ≡ false → steps p ≤ steps (repetition n p)
 copies_most zero p some = absurd (true≢false some)
 copies_most (suc n) p some = omega (arith, cat_steps p (repetition n p))
 
 -- a pattern has at most the steps that it has with a quantifier, where it is not left out
-times_most : (t : Times) (p : Pattern) → is_never t ≡ false → steps p ≤ steps (quantified_pattern t p)
+times_most : (t : Times) (p : MarkedPattern) → is_never t ≡ false → steps p ≤ steps (quantified_pattern t p)
 times_most any_times p some = star_most p
 times_most some_times p some = plus_most p
 times_most once_at_most p some = other_most empty p
@@ -148,42 +149,42 @@ times_most (range_times (suc n) m) p some =
     omega (arith, cat_steps (repetition (suc n) p) (repetition (m - suc n) (alt empty p)), copies_most (suc n) p (some_copy n))
 
 -- both parts of a small sequence are small
-pub cat_small : (whole p q : Pattern) → whole ≡ cat p q → IsSmall whole → IsSmall p × IsSmall q
+pub cat_small : (whole p q : MarkedPattern) → whole ≡ cat p q → IsSmall whole → IsSmall p × IsSmall q
 cat_small whole p q is h =
     let both : steps (cat (spread p) (spread q)) ≤ max_steps = subst IsSmall is h in
     (omega (arith, cat_steps (spread p) (spread q), both), omega (arith, cat_steps (spread p) (spread q), both))
 
 -- a small sequence is small in the other order
-pub turned_small : (whole p q : Pattern) → whole ≡ cat p q → IsSmall whole → IsSmall (cat q p)
+pub turned_small : (whole p q : MarkedPattern) → whole ≡ cat p q → IsSmall whole → IsSmall (cat q p)
 turned_small whole p q is h =
     let both : steps (cat (spread p) (spread q)) ≤ max_steps = subst IsSmall is h in
     omega (arith, cat_steps (spread p) (spread q), cat_steps (spread q) (spread p), both)
 
 -- both alternatives of a small pattern are small
-pub alt_small : (whole p q : Pattern) → whole ≡ alt p q → IsSmall whole → IsSmall p × IsSmall q
+pub alt_small : (whole p q : MarkedPattern) → whole ≡ alt p q → IsSmall whole → IsSmall p × IsSmall q
 alt_small whole p q is h =
     let both : steps (alt (spread p) (spread q)) ≤ max_steps = subst IsSmall is h in
     (omega (arith, one_most (spread p) (spread q), both), omega (arith, other_most (spread p) (spread q), both))
 
 -- what a quantifier stands behind is small where the whole is, and it is not left out
-pub repeated_small : (t : Times) (whole p : Pattern) → whole ≡ quantified_pattern t p → is_never t ≡ false → IsSmall whole → IsSmall p
+pub repeated_small : (t : Times) (whole p : MarkedPattern) → whole ≡ quantified_pattern t p → is_never t ≡ false → IsSmall whole → IsSmall p
 repeated_small t whole p is some h =
     let all : steps (spread (quantified_pattern t p)) ≤ max_steps = subst IsSmall is h in
     omega (arith, all, ap steps (times_if true t p), times_most t (spread p) some)
 
 -- what a small lookbehind looks for is small
-pub behind_small : (n : Bool) (whole p : Pattern) → whole ≡ lookbehind n p → IsSmall whole → IsSmall p
+pub behind_small : (n : Bool) (whole p : MarkedPattern) → whole ≡ lookbehind n p → IsSmall whole → IsSmall p
 behind_small n whole p is h =
     let all : steps (spread (lookbehind n p)) ≤ max_steps = subst IsSmall is h in omega (arith, all, spread_look n (spread p))
 
 -- what a small lookahead looks for is small
-pub ahead_small : (n : Bool) (whole p : Pattern) → whole ≡ lookahead n p → IsSmall whole → IsSmall p
+pub ahead_small : (n : Bool) (whole p : MarkedPattern) → whole ≡ lookahead n p → IsSmall whole → IsSmall p
 ahead_small n whole p is h =
     let all : steps (spread (lookahead n p)) ≤ max_steps = subst IsSmall is h in omega (arith, all, spread_look n (spread p))
 
 -- what is left
 -- what is the same is alike
-alike_same : (p q : Pattern) → p ≡ q → EquivalentPatterns p q
+alike_same : (p q : MarkedPattern) → p ≡ q → EquivalentPatterns p q
 alike_same p q is = subst (EquivalentPatterns p) is (alike_refl p)
 
 -- nothing, and boundaries
@@ -218,7 +219,7 @@ class_faced false m n rs = refl
 
 module _ (b : Bool) (fs : List OracleQuery) (xs : List Seeking) (are : AreAsides [] xs fs) where
   -- what reads nothing and looks for nothing
-  pub same_put : (whole p o : Pattern) (old : List (Option ℕ)) → whole ≡ p → p ≡ mirror_if b p → o ≡ aside p → spots p ≡ []
+  pub same_put : (whole p o : MarkedPattern) (old : List (Option ℕ)) → whole ≡ p → p ≡ mirror_if b p → o ≡ aside p → spots p ≡ []
       → PutsAside b whole o fs xs old old
   same_put whole p o old is faced slotted none =
       none_put b fs p (mirror_if b whole) o xs old [] old are (alike_same p (mirror_if b whole) (faced ∙ sym (ap (mirror_if b) is))) slotted
@@ -231,13 +232,13 @@ module _ (b : Bool) (fs : List OracleQuery) (xs : List Seeking) (are : AreAsides
       → ((n : Bool) (p : Box CountedRegex Global) → roll-CountedRegex x ≡ Behind n p → ⊥) → ((n : Bool) (p : Box CountedRegex Global) → roll-CountedRegex x ≡ Ahead n p → ⊥)
       → PutsAside b (outline_pattern (roll-CountedRegex x)) (outline_pattern (roll-CountedRegex x)) fs xs old old
   same_node CountedRegex-F.Empty old no_start no_end no_class no_then no_or no_times no_behind no_ahead =
-      subst (λ (p : Pattern). PutsAside b p p fs xs old old) (sym (fold-roll-CountedRegex Pattern outline_node CountedRegex-F.Empty))
+      subst (λ (p : MarkedPattern). PutsAside b p p fs xs old old) (sym (fold-roll-CountedRegex MarkedPattern outline_node CountedRegex-F.Empty))
       (same_put empty empty empty old refl (nothing_faced b) refl refl)
   same_node CountedRegex-F.Boundary old no_start no_end no_class no_then no_or no_times no_behind no_ahead =
-      subst (λ (p : Pattern). PutsAside b p p fs xs old old) (sym (fold-roll-CountedRegex Pattern outline_node CountedRegex-F.Boundary))
+      subst (λ (p : MarkedPattern). PutsAside b p p fs xs old old) (sym (fold-roll-CountedRegex MarkedPattern outline_node CountedRegex-F.Boundary))
       (same_put (look boundary) (look boundary) (look boundary) old refl (boundary_faced b) refl refl)
   same_node CountedRegex-F.NoBoundary old no_start no_end no_class no_then no_or no_times no_behind no_ahead =
-      subst (λ (p : Pattern). PutsAside b p p fs xs old old) (sym (fold-roll-CountedRegex Pattern outline_node CountedRegex-F.NoBoundary))
+      subst (λ (p : MarkedPattern). PutsAside b p p fs xs old old) (sym (fold-roll-CountedRegex MarkedPattern outline_node CountedRegex-F.NoBoundary))
       (same_put (look no_boundary) (look no_boundary) (look no_boundary) old refl (no_boundary_faced b) refl refl)
   same_node CountedRegex-F.Start old no_start no_end no_class no_then no_or no_times no_behind no_ahead = absurd (no_start rolls-Start)
   same_node CountedRegex-F.End old no_start no_end no_class no_then no_or no_times no_behind no_ahead = absurd (no_end rolls-End)
@@ -263,31 +264,31 @@ module _ (b : Bool) (fs : List OracleQuery) (xs : List Seeking) (are : AreAsides
       (λ x y is. same_node x old) o
 
   -- an assertion of an end of the text
-  pub edge_put : (whole o : Pattern) (l : Look) (old : List (Option ℕ)) → o ≡ look l → look l ≡ mirror_if b whole → PutsAside b whole o fs xs old old
+  pub edge_put : (whole o : MarkedPattern) (l : Look) (old : List (Option ℕ)) → o ≡ look l → look l ≡ mirror_if b whole → PutsAside b whole o fs xs old old
   edge_put whole o l old is faced =
       none_put b fs (look l) (mirror_if b whole) o xs old [] old are (alike_same (look l) (mirror_if b whole) faced) is tt (sym (append-nil old))
 
   -- the beginning
-  pub start_put : (whole o : Pattern) (other : Bool) (old : List (Option ℕ)) → other ≡ not b → whole ≡ look start
+  pub start_put : (whole o : MarkedPattern) (other : Bool) (old : List (Option ℕ)) → other ≡ not b → whole ≡ look start
       → o ≡ look (if other then start else end) → PutsAside b whole o fs xs old old
   start_put whole o other old way is made =
       edge_put whole o (if not b then start else end) old (made ∙ ap (λ (x : Bool). look (if x then start else end)) way)
       (edge_faced b ∙ sym (ap (mirror_if b) is))
 
   -- the end
-  pub end_put : (whole o : Pattern) (old : List (Option ℕ)) → whole ≡ look end → o ≡ look (if b then start else end)
+  pub end_put : (whole o : MarkedPattern) (old : List (Option ℕ)) → whole ≡ look end → o ≡ look (if b then start else end)
       → PutsAside b whole o fs xs old old
   end_put whole o old is made = edge_put whole o (if b then start else end) old made (end_faced b ∙ sym (ap (mirror_if b) is))
 
   -- a class, which no number tells
-  pub class_put : (n : Bool) (rs : List CharSet) (whole o : Pattern) (old new : List (Option ℕ)) → whole ≡ class false n rs → o ≡ class false n rs
+  pub class_put : (n : Bool) (rs : List CharSet) (whole o : MarkedPattern) (old new : List (Option ℕ)) → whole ≡ class false n rs → o ≡ class false n rs
       → new ≡ old ++ (None ∷ []) → PutsAside b whole o fs xs old new
   class_put n rs whole o old new is made numbers =
       none_put b fs (class false n rs) (mirror_if b whole) o xs old (None ∷ []) new are
       (alike_same (class false n rs) (mirror_if b whole) (class_faced b false n rs ∙ sym (ap (mirror_if b) is))) made (tt, tt) numbers
 
   -- what takes no copy of what it repeats
-  pub never_put : (t : Times) (whole p s : Pattern) (old : List (Option ℕ)) → whole ≡ quantified_pattern t p → is_never t ≡ true
+  pub never_put : (t : Times) (whole p s : MarkedPattern) (old : List (Option ℕ)) → whole ≡ quantified_pattern t p → is_never t ≡ true
       → s ≡ quantified_pattern t empty → PutsAside b whole s fs xs old old
   never_put t whole p s old is never made =
       let q = mirror_if b p in
@@ -297,59 +298,59 @@ module _ (b : Bool) (fs : List OracleQuery) (xs : List Seeking) (are : AreAsides
 
 module _ (b : Bool) (fs : List OracleQuery) where
   -- of alternatives, what is left of each
-  pub or_put : (whole p q o r s : Pattern) (xs ys : List Seeking) (old mid new : List (Option ℕ)) → whole ≡ alt p q
+  pub or_put : (whole p q o r s : MarkedPattern) (xs ys : List Seeking) (old mid new : List (Option ℕ)) → whole ≡ alt p q
       → (first : PutsAside b p o fs xs old mid) → PutsAside b q r (fs ++ first.added) ys mid new → s ≡ alt o r
       → PutsAside b whole s fs ys old new
   or_put whole p q o r s xs ys old mid new is first second made =
-      subst (λ (z : Pattern). Puts b z s fs ys old new) (sym (alt_facing b p q) ∙ sym (ap (mirror_if b) is))
+      subst (λ (z : MarkedPattern). Puts b z s fs ys old new) (sym (alt_facing b p q) ∙ sym (ap (mirror_if b) is))
       (either_put b fs (mirror_if b p) (mirror_if b q) o r s xs ys old mid new first second made)
 
   -- and what is set aside is what is left of it, with the numbers of its marks
-  pub fresh_set : (p o : Pattern) (x : Seeking) (xs : List Seeking) (fresh new : List (Option ℕ)) → fresh ≡ [] → PutsAside b p o fs xs fresh new
+  pub fresh_set : (p o : MarkedPattern) (x : Seeking) (xs : List Seeking) (fresh new : List (Option ℕ)) → fresh ≡ [] → PutsAside b p o fs xs fresh new
       → is_unmarked p ≡ true → IsSmall p → x.backward ≡ b → x.pattern ≡ o → x.told ≡ new → SetsAside b p x fs xs
   fresh_set p o x xs fresh new none one bare small way pattern_is told_is =
       set_put b fs p o x xs new (subst (λ (l : List (Option ℕ)). PutsAside b p o fs xs l new) none one) bare small way pattern_is told_is
 
   -- of two, one behind the other
-  pub then_put : (p q pv qv o r s : Pattern) (xs ys : List Seeking) (old mid new : List (Option ℕ)) → p ≡ pv → q ≡ qv
+  pub then_put : (p q pv qv o r s : MarkedPattern) (xs ys : List Seeking) (old mid new : List (Option ℕ)) → p ≡ pv → q ≡ qv
       → (first : PutsAside b p o fs xs old mid) → PutsAside b q r (fs ++ first.added) ys mid new → s ≡ cat o r
       → PutsBoth b pv qv s fs ys old new
   then_put p q pv qv o r s xs ys old mid new p_is q_is first second made =
-      subst (λ (z : Pattern). Puts b (cat (mirror_if b z) (mirror_if b qv)) s fs ys old new) p_is
-      (subst (λ (z : Pattern). Puts b (cat (mirror_if b p) (mirror_if b z)) s fs ys old new) q_is
+      subst (λ (z : MarkedPattern). Puts b (cat (mirror_if b z) (mirror_if b qv)) s fs ys old new) p_is
+      (subst (λ (z : MarkedPattern). Puts b (cat (mirror_if b p) (mirror_if b z)) s fs ys old new) q_is
       (both_put b fs (mirror_if b p) (mirror_if b q) o r s xs ys old mid new first second made))
 
   -- of what is repeated
-  pub repeated_put : (t : Times) (whole p o s : Pattern) (xs : List Seeking) (fresh own old new more : List (Option ℕ)) (n : ℕ)
+  pub repeated_put : (t : Times) (whole p o s : MarkedPattern) (xs : List Seeking) (fresh own old new more : List (Option ℕ)) (n : ℕ)
       → whole ≡ quantified_pattern t p → fresh ≡ [] → PutsAside b p o fs xs fresh own → new ≡ old ++ concat_copies n more → n ≡ all_copies t → more ≡ own
       → s ≡ quantified_pattern t o → PutsAside b whole s fs xs old new
   repeated_put t whole p o s xs fresh own old new more n is none one numbers count all made =
-      subst (λ (z : Pattern). Puts b (mirror_if b z) s fs xs old new) (sym is)
+      subst (λ (z : MarkedPattern). Puts b (mirror_if b z) s fs xs old new) (sym is)
       (times_put b fs t p o s xs own old new (subst (λ (l : List (Option ℕ)). PutsAside b p o fs xs l own) none one)
       (numbers ∙ ap (λ (k : ℕ). old ++ concat_copies k more) count ∙ ap (λ (l : List (Option ℕ)). old ++ concat_copies (all_copies t) l) all) made)
 
   -- of a lookaround, what is left of it by which way it looks
-  pub behind_found : (n : Bool) (whole p pv o : Pattern) (xs : List Seeking) (old new : List (Option ℕ)) → whole ≡ lookbehind n pv → p ≡ pv
+  pub behind_found : (n : Bool) (whole p pv o : MarkedPattern) (xs : List Seeking) (old new : List (Option ℕ)) → whole ≡ lookbehind n pv → p ≡ pv
       → PutsLook b n b p o fs xs old new → PutsAside b whole o fs xs old new
   behind_found n whole p pv o xs old new is same puts =
-      subst (λ (z : Pattern). PutsAside b z o fs xs old new) (ap (lookbehind n) same ∙ sym is) (behind_faced b n p o fs xs old new puts)
+      subst (λ (z : MarkedPattern). PutsAside b z o fs xs old new) (ap (lookbehind n) same ∙ sym is) (behind_faced b n p o fs xs old new puts)
 
   -- of one that looks ahead
-  pub ahead_found : (n other : Bool) (whole p pv o : Pattern) (xs : List Seeking) (old new : List (Option ℕ)) → other ≡ not b → whole ≡ lookahead n pv
+  pub ahead_found : (n other : Bool) (whole p pv o : MarkedPattern) (xs : List Seeking) (old new : List (Option ℕ)) → other ≡ not b → whole ≡ lookahead n pv
       → p ≡ pv → PutsLook other n b p o fs xs old new → PutsAside b whole o fs xs old new
   ahead_found n other whole p pv o xs old new way is same puts =
-      subst (λ (z : Pattern). PutsAside b z o fs xs old new) (ap (lookahead n) same ∙ sym is)
+      subst (λ (z : MarkedPattern). PutsAside b z o fs xs old new) (ap (lookahead n) same ∙ sym is)
       (ahead_faced b n p o fs xs old new (subst (λ (x : Bool). PutsLook x n b p o fs xs old new) way puts))
 
   -- the mark of one that looks ahead
-  pub mark_put : (is_ahead n other : Bool) (p s : Pattern) (k : ℕ) (xs : List Seeking) (old new : List (Option ℕ)) → is_ahead ≡ true → other ≡ not b
+  pub mark_put : (is_ahead n other : Bool) (p s : MarkedPattern) (k : ℕ) (xs : List Seeking) (old new : List (Option ℕ)) → is_ahead ≡ true → other ≡ not b
       → TellsAside other p k fs xs → new ≡ old ++ (Some k ∷ []) → s ≡ slot n false → PutsLook is_ahead n b p s fs xs old new
   mark_put true n other p s k xs old new ahead way one numbers made =
       ahead_put b fs n p s k xs old new (subst (λ (x : Bool). TellsAside x p k fs xs) way one) numbers made
   mark_put false n other p s k xs old new ahead way one numbers made = absurd (true≢false (sym ahead))
 
   -- and what is left of what one behind looks for
-  pub look_put : (is_ahead n : Bool) (p o s : Pattern) (xs : List Seeking) (old new : List (Option ℕ)) → is_ahead ≡ false
+  pub look_put : (is_ahead n : Bool) (p o s : MarkedPattern) (xs : List Seeking) (old new : List (Option ℕ)) → is_ahead ≡ false
       → PutsAside b p o fs xs old new → s ≡ lookbehind n o → PutsLook is_ahead n b p s fs xs old new
   look_put true n p o s xs old new behind one made = absurd (true≢false behind)
   look_put false n p o s xs old new behind one made = behind_put b fs n (mirror_if b p) o s xs old new one made

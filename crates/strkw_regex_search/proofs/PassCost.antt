@@ -2,8 +2,8 @@
 -- patterns.
 use Rattle.std.proofs.Common.{◌≡◌, ℕ, suc, ◌+◌, ◌*◌, Bool, true, false, ◌||◌, List, [], ◌∷◌, ◌++◌, length, drop, Option, Some, None, append-nil, refl}
 use Rattle.std.proofs.Common.{sym, ap, ◌∙◌, arith}
-use Rattle.strkw_regex_core.specs.Tree.{Pattern, empty, class, look, cat, alt, star, plus, lookbehind, lookahead}
-use Rattle.strkw_regex_core.specs.Mirror.{along}
+use Rattle.strkw_regex_core.specs.machine.MarkedPattern.{MarkedPattern, empty, class, look, cat, alt, star, plus, lookbehind, lookahead}
+use Rattle.strkw_regex_core.specs.machine.Mirror.{along}
 use Rattle.strkw_regex_core.specs.Program.{program}
 use Rattle.strkw_regex_core.specs.Size.{steps_of, steps}
 use Rattle.strkw_regex_search.specs.machine.Counted.{walking, ending, fill_rows, seeking_by, is_any}
@@ -16,7 +16,7 @@ use Rattle.strkw_regex_search.proofs.Marked.{same_program, own_marks, step_marke
 use Rattle.strkw_regex_search.proofs.OracleCorrect.{along_length}
 
 -- marks that are told change neither which classes there are
-told_classes : (now : ℕ → Bool) (ts : List (Option ℕ)) (p : Pattern) → classes (told_by now ts p) ≡ classes p
+told_classes : (now : ℕ → Bool) (ts : List (Option ℕ)) (p : MarkedPattern) → classes (told_by now ts p) ≡ classes p
 told_classes now ts empty = refl
 told_classes now ts (class m n rs) = refl
 told_classes now ts (look l) = refl
@@ -28,16 +28,16 @@ told_classes now ts (lookbehind n p) = told_classes now ts p
 told_classes now ts (lookahead n p) = refl
 
 -- nor what the pattern is with others
-told_marked : (ms : List Bool) (now : ℕ → Bool) (ts : List (Option ℕ)) (p : Pattern) → mark_classes ms (told_by now ts p) ≡ mark_classes ms p
+told_marked : (ms : List Bool) (now : ℕ → Bool) (ts : List (Option ℕ)) (p : MarkedPattern) → mark_classes ms (told_by now ts p) ≡ mark_classes ms p
 told_marked ms now ts empty = refl
 told_marked ms now ts (class m n rs) = refl
 told_marked ms now ts (look l) = refl
 told_marked ms now ts (cat p q) =
-    ap (λ (r : Pattern). cat r (mark_classes (drop (classes (told_by now ts p)) ms) (told_by now (drop (classes p) ts) q))) (told_marked ms now ts p)
+    ap (λ (r : MarkedPattern). cat r (mark_classes (drop (classes (told_by now ts p)) ms) (told_by now (drop (classes p) ts) q))) (told_marked ms now ts p)
     ∙ ap (λ (k : ℕ). cat (mark_classes ms p) (mark_classes (drop k ms) (told_by now (drop (classes p) ts) q))) (told_classes now ts p)
     ∙ ap (cat (mark_classes ms p)) (told_marked (drop (classes p) ms) now (drop (classes p) ts) q)
 told_marked ms now ts (alt p q) =
-    ap (λ (r : Pattern). alt r (mark_classes (drop (classes (told_by now ts p)) ms) (told_by now (drop (classes p) ts) q))) (told_marked ms now ts p)
+    ap (λ (r : MarkedPattern). alt r (mark_classes (drop (classes (told_by now ts p)) ms) (told_by now (drop (classes p) ts) q))) (told_marked ms now ts p)
     ∙ ap (λ (k : ℕ). alt (mark_classes ms p) (mark_classes (drop k ms) (told_by now (drop (classes p) ts) q))) (told_classes now ts p)
     ∙ ap (alt (mark_classes ms p)) (told_marked (drop (classes p) ms) now (drop (classes p) ts) q)
 told_marked ms now ts (star p) = ap star (told_marked ms now ts p)
@@ -46,12 +46,12 @@ told_marked ms now ts (lookbehind n p) = ap (lookbehind n) (told_marked ms now t
 told_marked ms now ts (lookahead n p) = refl
 
 -- so nor its program
-told_program : (now : ℕ → Bool) (ts : List (Option ℕ)) (p : Pattern) → program (told_by now ts p) ≡ program p
+told_program : (now : ℕ → Bool) (ts : List (Option ℕ)) (p : MarkedPattern) → program (told_by now ts p) ≡ program p
 told_program now ts p =
     sym (same_program [] (told_by now ts p)) ∙ ap program (told_marked [] now ts p) ∙ same_program [] p
 
 -- one walk
-module _ (b a : Option ℕ) (q : Pattern) where
+module _ (b a : Option ℕ) (q : MarkedPattern) where
   -- the pattern with the marks that a walk leaves is that after a step
   left_marks : mark_classes (walking b a (program q) (marks_of q)).result.marks q ≡ step b a q true
   left_marks =
@@ -66,17 +66,17 @@ module _ (b a : Option ℕ) (q : Pattern) where
 -- a search whose marks are told
 module _ (rows : List (List Bool)) (ts : List (Option ℕ)) where
   -- comes to its answers
-  ending_result : (cs : List ℕ) (p : Pattern) (last : Option ℕ) → (ending rows ts p last cs).result ≡ ends_from rows ts p last cs
+  ending_result : (cs : List ℕ) (p : MarkedPattern) (last : Option ℕ) → (ending rows ts p last cs).result ≡ ends_from rows ts p last cs
   ending_result [] p last = ap (λ (b : Bool). b ∷ []) (left_answer last None (told_by (row_answer rows 0) ts p))
   ending_result (c ∷ cs) p last =
       let q = told_by (row_answer rows (suc (length cs))) ts p in
       ap (λ (b : Bool). b ∷ (ending rows ts (mark_classes (walking last (Some c) (program q) (marks_of q)).result.marks q) (Some c) cs).result)
       (left_answer last (Some c) q)
-      ∙ ap (λ (r : Pattern). leaves last (Some c) q true ∷ (ending rows ts r (Some c) cs).result) (left_marks last (Some c) q)
+      ∙ ap (λ (r : MarkedPattern). leaves last (Some c) q true ∷ (ending rows ts r (Some c) cs).result) (left_marks last (Some c) q)
       ∙ ap (λ (bs : List Bool). leaves last (Some c) q true ∷ bs) (ending_result cs (step last (Some c) q true) (Some c))
 
   -- in twice its steps for each place
-  ending_steps : (cs : List ℕ) (p : Pattern) (last : Option ℕ) → (ending rows ts p last cs).steps ≡ 2 * steps p * (length cs + 1)
+  ending_steps : (cs : List ℕ) (p : MarkedPattern) (last : Option ℕ) → (ending rows ts p last cs).steps ≡ 2 * steps p * (length cs + 1)
   ending_steps [] p last =
       let q = told_by (row_answer rows 0) ts p in
       let same : steps q ≡ steps p = ap steps_of (told_program (row_answer rows 0) ts p) in
@@ -94,7 +94,7 @@ module _ (rows : List (List Bool)) (ts : List (Option ℕ)) where
       ∙ omega arith
 
   -- one of its answers holds exactly where it ends at some place
-  any_ends : (cs : List ℕ) (p : Pattern) (last : Option ℕ) → is_any (ends_from rows ts p last cs) ≡ ends_within rows ts p last cs
+  any_ends : (cs : List ℕ) (p : MarkedPattern) (last : Option ℕ) → is_any (ends_from rows ts p last cs) ≡ ends_within rows ts p last cs
   any_ends [] p last = or_false (leaves last None (told_by (row_answer rows 0) ts p) true)
     where
       or_false : (b : Bool) → (b || false) ≡ b

@@ -1,9 +1,9 @@
 -- The passes that look for the parts of a pattern.
 use Rattle.std.proofs.Common.{◌≡◌, ◌+◌, ℕ, List, ◌∷◌, length, ap, arith, Bool, true, false, not, [], ◌++◌, refl, sym, subst, ◌∙◌}
-use Rattle.strkw_regex_core.specs.Tree.{Pattern}
+use Rattle.strkw_regex_core.specs.machine.MarkedPattern.{MarkedPattern}
 use Rattle.strkw_regex_core.specs.OneCharLookahead.{are_told}
 use Rattle.strkw_regex_core.specs.Size.{search_steps}
-use Rattle.strkw_regex_core.specs.Mirror.{mirror, mirror_if, is_backward}
+use Rattle.strkw_regex_core.specs.machine.Mirror.{mirror, mirror_if, is_backward}
 use Rattle.strkw_regex_core.specs.LeadingLookahead.{Part}
 use Rattle.strkw_regex_core.specs.machine.EquivalentPatterns.{EquivalentPatterns}
 use Rattle.strkw_regex_search.specs.machine.Passes.{Pass, IsPass, ArePasses, pass_of, passes_of}
@@ -17,7 +17,7 @@ pub one_taken : {A : Type 0} {items others : List A} {x : A} {n m : ℕ} → ite
 one_taken taken fewer count = let longer = ap length taken in omega (arith, longer, fewer, count)
 
 -- a pattern that is no better told from the end of a text on is looked for along it
-pub forth_pass : (n : Bool) (p : Pattern) → is_backward p ≡ false
+pub forth_pass : (n : Bool) (p : MarkedPattern) → is_backward p ≡ false
     → IsPass record { negated = n; backward = false; pattern = p } record { negated = n; pattern = p }
 forth_pass n p along_it = record {
   negated = refl;
@@ -27,7 +27,7 @@ forth_pass n p along_it = record {
 }
 
 -- and any other from its end on
-pub back_pass : (n : Bool) (p q : Pattern) → is_backward p ≡ true → EquivalentPatterns q (mirror p)
+pub back_pass : (n : Bool) (p q : MarkedPattern) → is_backward p ≡ true → EquivalentPatterns q (mirror p)
     → IsPass record { negated = n; backward = true; pattern = q } record { negated = n; pattern = p }
 back_pass n p q turned u =
     let told : are_told (mirror p) ≡ true = and_right (not (are_told p)) _ turned in

@@ -3,7 +3,7 @@ use Rattle.std.proofs.Common.{◌≡◌, ℕ, Bool, true, false, ◌&&◌, ◌||
 use Rattle.std.proofs.lemmas.Bool.Decides.{nat_tests}
 use Rattle.std.proofs.lemmas.List.{append_assoc, append-nil}
 use Rattle.strkw_charset.specs.declared.tree.CharSet.{CharSet}
-use Rattle.strkw_regex_core.specs.Tree.{Pattern, empty, class, look, cat, alt, star, plus, lookbehind, lookahead}
+use Rattle.strkw_regex_core.specs.machine.MarkedPattern.{MarkedPattern, empty, class, look, cat, alt, star, plus, lookbehind, lookahead}
 use Rattle.strkw_regex_core.specs.machine.Positions.{reads, sees, leaves, step, marks_of}
 use Rattle.strkw_regex_core.specs.Program.{Instruction, read, fork, other, join, star_end, plus_end, look_begin, look_end, glance, program}
 use Rattle.strkw_regex_core.specs.Program.{alternatives}
@@ -25,13 +25,13 @@ module _ (b a : Option ℕ) where
   with_marks ns w = record { leaves = w.leaves; marks = ns ++ w.marks }
 
   -- a walk over its program leaves the marks of its step, and goes on as a way leaves it
-  abbrev pub IsFollowed : Pattern → Type 0
+  abbrev pub IsFollowed : MarkedPattern → Type 0
   IsFollowed p = (is : List Instruction) (x : Bool) (around again ms : List Bool)
       → follow (program p ++ is) x around (agains b a p ++ again) (marks_of p ++ ms)
       ≡ with_marks (marks_of (step b a p x)) (follow is (leaves b a p x) around again ms)
 
   -- among alternatives what leaves is the last of them, y, or stands beside, in acc'
-  pub record FollowedBeside (p : Pattern) (is : List Instruction) (x acc : Bool) (around again ms : List Bool) : Type 0 where
+  pub record FollowedBeside (p : MarkedPattern) (is : List Instruction) (x acc : Bool) (around again ms : List Bool) : Type 0 where
     pub leaving : Bool
     pub beside : Bool
     pub either : (beside || leaving) ≡ (acc || leaves b a p x)
@@ -39,7 +39,7 @@ module _ (b a : Option ℕ) where
         ≡ with_marks (marks_of (step b a p x)) (follow is leaving (beside ∷ x ∷ around) again ms)
 
   -- it is followed so among alternatives, whatever comes behind it
-  abbrev pub IsFollowedBeside : Pattern → Type 0
+  abbrev pub IsFollowedBeside : MarkedPattern → Type 0
   IsFollowedBeside p = (is : List Instruction) (x acc : Bool) (around again ms : List Bool) → FollowedBeside p is x acc around again ms
 
   -- an alternative that does not hold changes nothing
@@ -66,14 +66,14 @@ module _ (b a : Option ℕ) where
       e ∙ ap (with_marks ns) f ∙ ap (λ (ms : List Bool). record { leaves = w.leaves; marks = ms }) (sym (append_assoc ns os w.marks))
 
   -- so two patterns, one behind the other, are followed, where each is
-  cat_followed : (p q : Pattern) → IsFollowed p → IsFollowed q → IsFollowed (cat p q)
+  cat_followed : (p q : MarkedPattern) → IsFollowed p → IsFollowed q → IsFollowed (cat p q)
   cat_followed p q first second is x around again ms =
       rw (append_assoc (program p) (program q) is, append_assoc (agains b a p) (agains b a q) again, append_assoc (marks_of p) (marks_of q) ms)
       (then_followed (marks_of (step b a p x)) (marks_of (step b a q (leaves b a p x))) _ _ _
       (first (program q ++ is) x around (agains b a q ++ again) (marks_of q ++ ms)) (second is (leaves b a p x) around again ms))
 
   -- so a choice between a fork and a join is followed, where both alternatives are
-  choice_followed : (p q : Pattern) → IsFollowedBeside p → IsFollowed q → (is : List Instruction) (x : Bool) (around again ms : List Bool)
+  choice_followed : (p q : MarkedPattern) → IsFollowedBeside p → IsFollowed q → (is : List Instruction) (x : Bool) (around again ms : List Bool)
       → follow ((fork ∷ (alternatives p ++ (other ∷ (program q ++ (join ∷ []))))) ++ is) x around ((agains b a p ++ agains b a q) ++ again)
       ((marks_of p ++ marks_of q) ++ ms)
       ≡ with_marks (marks_of (step b a (alt p q) x)) (follow is (leaves b a (alt p q) x) around again ms)
@@ -91,7 +91,7 @@ module _ (b a : Option ℕ) where
       ∙ ap (λ (y : Bool). with_marks (marks_of (step b a q x)) (follow is (y || leaves b a q x) around again ms)) one.either))
 
   -- so a choice is followed, where both alternatives are
-  alt_followed : (p q : Pattern) → IsFollowedBeside p → IsFollowed q → IsFollowed (alt p q)
+  alt_followed : (p q : MarkedPattern) → IsFollowedBeside p → IsFollowed q → IsFollowed (alt p q)
   alt_followed p q first second is x around again ms =
       by_option
       (λ (js : List Instruction). follow (js ++ is) x around ((agains b a p ++ agains b a q) ++ again) ((marks_of p ++ marks_of q) ++ ms)
@@ -99,7 +99,7 @@ module _ (b a : Option ℕ) where
       p q _ _ (λ m n rs e f. rw (e, f) (option_followed m n rs is x around again ms)) (choice_followed p q first second is x around again ms)
 
   -- and a choice among alternatives
-  alt_followed_beside : (p q : Pattern) → IsFollowedBeside p → IsFollowed q → IsFollowedBeside (alt p q)
+  alt_followed_beside : (p q : MarkedPattern) → IsFollowedBeside p → IsFollowed q → IsFollowedBeside (alt p q)
   alt_followed_beside p q first second is x acc around again ms =
       let one = first (other ∷ (program q ++ is)) x acc around (agains b a q ++ again) (marks_of q ++ ms) in
       record {
@@ -122,7 +122,7 @@ module _ (b a : Option ℕ) where
       regroup x y z = grind (arith, nat_tests)
 
   -- so any number of rounds is followed, where one is
-  star_followed : (p : Pattern) → IsFollowed p → IsFollowed (star p)
+  star_followed : (p : MarkedPattern) → IsFollowed p → IsFollowed (star p)
   star_followed p body is x around again ms =
       both_by_class
       (λ (js : List Instruction) (bs : List Bool). follow (js ++ is) x around (bs ++ again) (marks_of p ++ ms)
@@ -132,7 +132,7 @@ module _ (b a : Option ℕ) where
       (body (star_end ∷ is) (x || leaves b a p false) ((x || leaves b a p false) ∷ around) again ms))
 
   -- and one round or more
-  plus_followed : (p : Pattern) → IsFollowed p → IsFollowed (plus p)
+  plus_followed : (p : MarkedPattern) → IsFollowed p → IsFollowed (plus p)
   plus_followed p body is x around again ms =
       both_by_class
       (λ (js : List Instruction) (bs : List Bool). follow (js ++ is) x around (bs ++ again) (marks_of p ++ ms)
@@ -141,7 +141,7 @@ module _ (b a : Option ℕ) where
       (rw (append_assoc (program p) (plus_end ∷ []) is) (body (plus_end ∷ is) (x || leaves b a p false) around again ms))
 
   -- so a lookbehind is followed, where its body is
-  behind_followed : (n : Bool) (p : Pattern) → IsFollowed p → IsFollowed (lookbehind n p)
+  behind_followed : (n : Bool) (p : MarkedPattern) → IsFollowed p → IsFollowed (lookbehind n p)
   behind_followed n p body is x around again ms =
       rw (append_assoc (program p) (look_end n ∷ []) is) (body (look_end n ∷ is) true (x ∷ around) again ms)
 
@@ -155,7 +155,7 @@ module _ (b a : Option ℕ) where
       passed e = grind (arith, nat_tests)
 
   -- and a glance lets pass where it is seen
-  glance_followed : (p : Pattern) (is : List Instruction) (x : Bool) (around again ms : List Bool)
+  glance_followed : (p : MarkedPattern) (is : List Instruction) (x : Bool) (around again ms : List Bool)
       → follow (glance p ++ is) x around again ms ≡ follow is (x && sees b a p) around again ms
   glance_followed empty is x around again ms = nothing_followed is x around again ms
   glance_followed (class m n rs) is x around again ms = refl
@@ -179,11 +179,11 @@ module _ (b a : Option ℕ) where
       ∙ glance_followed p (look_end n ∷ is) true (x ∷ around) again ms
 
   -- so a lookahead is followed
-  ahead_followed : (n : Bool) (p : Pattern) → IsFollowed (lookahead n p)
+  ahead_followed : (n : Bool) (p : MarkedPattern) → IsFollowed (lookahead n p)
   ahead_followed n p is x around again ms = glance_followed (lookahead n p) is x around again ms
 
   -- a pattern whose program is the same among alternatives is followed so there too, if it is alone
-  alone_followed : (p : Pattern) → alternatives p ≡ program p → IsFollowed p → IsFollowed p × IsFollowedBeside p
+  alone_followed : (p : MarkedPattern) → alternatives p ≡ program p → IsFollowed p → IsFollowed p × IsFollowedBeside p
   alone_followed p same known = (
     known,
     λ is x acc around again ms. record {
@@ -197,7 +197,7 @@ module _ (b a : Option ℕ) where
   )
 
   -- so each pattern is followed so, alone and among alternatives
-  followed_both : (p : Pattern) → IsFollowed p × IsFollowedBeside p
+  followed_both : (p : MarkedPattern) → IsFollowed p × IsFollowedBeside p
   followed_both empty = alone_followed empty refl (λ is x around again ms. refl)
   followed_both (class m n rs) = alone_followed (class m n rs) refl (class_followed m n rs)
   followed_both (look l) = alone_followed (look l) refl (λ is x around again ms. refl)
@@ -210,7 +210,7 @@ module _ (b a : Option ℕ) where
   followed_both (lookahead n p) = alone_followed (lookahead n p) refl (ahead_followed n p)
 
   -- a walk over the program is a step of the pattern
-  pub walked_is : (p : Pattern) (ms : List Bool) → walked b a (program p) (marks_of p ++ ms)
+  pub walked_is : (p : MarkedPattern) (ms : List Bool) → walked b a (program p) (marks_of p ++ ms)
       ≡ record { leaves = leaves b a p true; marks = marks_of (step b a p true) ++ ms }
   walked_is p ms =
       ap (λ (ns : List Bool). follow (program p) true [] ns (marks_of p ++ ms)) (asked_again b a p ms ∙ sym (append-nil (agains b a p)))

@@ -4,9 +4,10 @@ use Rattle.std.proofs.Common.{◌≡◌, ℕ, ◌+◌, ◌*◌, ◌≤◌, Bool,
 use Rattle.std.proofs.Common.{if◌then◌else◌, append-nil, refl, sym, ap, subst, ◌∙◌, arith}
 use Rattle.std.proofs.lemmas.List.{append_assoc}
 use Rattle.std.proofs.lemmas.Nat.{mul-le}
-use Rattle.strkw_regex_core.specs.Tree.{Pattern, empty, class, look, cat, alt, star, plus, lookbehind, lookahead}
-use Rattle.strkw_regex_core.specs.Meaning.{Found}
-use Rattle.strkw_regex_core.specs.Mirror.{mirror, mirror_look, mirror_if}
+use Rattle.strkw_regex_core.specs.machine.MarkedPattern.{MarkedPattern, empty, class, look, cat, alt, star, plus, lookbehind, lookahead}
+use Rattle.strkw_regex_core.specs.machine.MarkedMeaning.{Found}
+use Rattle.strkw_regex_core.specs.Mirror.{mirror_look}
+use Rattle.strkw_regex_core.specs.machine.Mirror.{mirror, mirror_if}
 use Rattle.strkw_regex_core.specs.Program.{is_empty, is_class, alternatives}
 use Rattle.strkw_regex_core.specs.Size.{steps_of, steps, spread}
 use Rattle.strkw_regex_search.specs.machine.OraclePasses.{OracleQuery, AreToldAs, IsAside, AreAsides}
@@ -33,7 +34,7 @@ total_append [] ys = omega arith
 total_append (x ∷ xs) ys = omega (arith, total_append xs ys)
 
 -- Some searches more tell the lookaheads of a pattern r, and take so many steps.
-pub record Tells (b : Bool) (r : Pattern) (fs : List OracleQuery) (xs : List Seeking) (t : ℕ) : Type 0 where
+pub record Tells (b : Bool) (r : MarkedPattern) (fs : List OracleQuery) (xs : List Seeking) (t : ℕ) : Type 0 where
   pub added : List OracleQuery
   pub more : List Seeking
   pub asides : AreAsides [] (xs ++ more) (fs ++ added)
@@ -42,11 +43,11 @@ pub record Tells (b : Bool) (r : Pattern) (fs : List OracleQuery) (xs : List See
   pub takes : total more ≡ t
 
 -- there are such, behind any others
-abbrev pub CanTell : Bool → Pattern → ℕ → Type 0
+abbrev pub CanTell : Bool → MarkedPattern → ℕ → Type 0
 CanTell b r t = (fs : List OracleQuery) (xs : List Seeking) → AreAsides [] xs fs → Tells b r fs xs t
 
 -- none are needed for a pattern without lookaheads
-none_needed : (b : Bool) (r : Pattern) (numbers : List (Option ℕ)) → ((fs : List OracleQuery) → AreToldAs fs b numbers (spots r)) → CanTell b r 0
+none_needed : (b : Bool) (r : MarkedPattern) (numbers : List (Option ℕ)) → ((fs : List OracleQuery) → AreToldAs fs b numbers (spots r)) → CanTell b r 0
 none_needed b r numbers told = λ fs xs are. record {
   added = [];
   more = [];
@@ -57,7 +58,7 @@ none_needed b r numbers told = λ fs xs are. record {
 }
 
 -- those of two, one after the other
-two_tell : (b : Bool) (r s : Pattern) (fs : List OracleQuery) (xs : List Seeking) (t u : ℕ) → Tells b r fs xs t → CanTell b s u
+two_tell : (b : Bool) (r s : MarkedPattern) (fs : List OracleQuery) (xs : List Seeking) (t u : ℕ) → Tells b r fs xs t → CanTell b s u
     → (added : List OracleQuery) × (more : List Seeking) × AreAsides [] (xs ++ more) (fs ++ added) × (numbers : List (Option ℕ))
     × AreToldAs (fs ++ added) b numbers (spots r ++ spots s) × (total more ≡ t + u)
 two_tell b r s fs xs t u one can =
@@ -76,19 +77,19 @@ two_tell b r s fs xs t u one can =
     )
 
 -- there are such for a sequence where there are for both parts, and they take the steps of both
-cat_tells : (b : Bool) (r s : Pattern) (t u : ℕ) → CanTell b r t → CanTell b s u → CanTell b (cat r s) (t + u)
+cat_tells : (b : Bool) (r s : MarkedPattern) (t u : ℕ) → CanTell b r t → CanTell b s u → CanTell b (cat r s) (t + u)
 cat_tells b r s t u one two = λ fs xs are.
     let both = two_tell b r s fs xs t u (one fs xs are) two in
     record { added = both.0; more = both.1; asides = both.2; numbers = both.3; told = both.4; takes = both.5 }
 
 -- and so for two alternatives
-alt_tells : (b : Bool) (r s : Pattern) (t u : ℕ) → CanTell b r t → CanTell b s u → CanTell b (alt r s) (t + u)
+alt_tells : (b : Bool) (r s : MarkedPattern) (t u : ℕ) → CanTell b r t → CanTell b s u → CanTell b (alt r s) (t + u)
 alt_tells b r s t u one two = λ fs xs are.
     let both = two_tell b r s fs xs t u (one fs xs are) two in
     record { added = both.0; more = both.1; asides = both.2; numbers = both.3; told = both.4; takes = both.5 }
 
 -- those of a body
-same_tells : (b : Bool) (r s : Pattern) (t : ℕ) → spots s ≡ spots r → CanTell b r t → CanTell b s t
+same_tells : (b : Bool) (r s : MarkedPattern) (t : ℕ) → spots s ≡ spots r → CanTell b r t → CanTell b s t
 same_tells b r s t same one = λ fs xs are.
     let tells = one fs xs are in
     record {
@@ -101,7 +102,7 @@ same_tells b r s t same one = λ fs xs are.
     }
 
 -- that of a lookahead: its own, told by those of its lookaheads
-ahead_tells : (b n : Bool) (q r : Pattern) (t : ℕ) → EquivalentPatterns r (mirror q) → is_unmarked r ≡ true → CanTell (not b) r t
+ahead_tells : (b n : Bool) (q r : MarkedPattern) (t : ℕ) → EquivalentPatterns r (mirror q) → is_unmarked r ≡ true → CanTell (not b) r t
     → CanTell b (lookahead n q) (t + steps (aside r))
 ahead_tells b n q r t like bare can = λ fs xs are.
     let one = can fs xs are in
@@ -125,26 +126,26 @@ ahead_tells b n q r t like bare can = λ fs xs are.
     }
 
 -- The searches for a pattern, and what is left of it, take no more steps than are counted.
-pub record IsTold (b : Bool) (p : Pattern) : Type 0 where
+pub record IsTold (b : Bool) (p : MarkedPattern) : Type 0 where
   pub t : ℕ
   pub can : CanTell b (mirror_if b p) t
   pub fits : t + steps (aside (mirror_if b p)) ≤ steps (spread p)
   pub beside : t + steps_of (alternatives (aside (mirror_if b p))) ≤ steps_of (alternatives (spread p))
 
 -- what is nothing, or a class, is so from either end
-facing_nothing : (b : Bool) (p : Pattern) → is_empty (mirror_if b p) ≡ is_empty p
+facing_nothing : (b : Bool) (p : MarkedPattern) → is_empty (mirror_if b p) ≡ is_empty p
 facing_nothing false p = refl
 facing_nothing true p = mirror_nothing p
 
 -- a pattern is a class from either end exactly where it is one
-facing_class : (b : Bool) (p : Pattern) → is_class (mirror_if b p) ≡ is_class p
+facing_class : (b : Bool) (p : MarkedPattern) → is_class (mirror_if b p) ≡ is_class p
 facing_class false p = refl
 facing_class true p = mirror_class p
 
 -- of two, one behind the other, in either order
-module _ (p q : Pattern) where
+module _ (p q : MarkedPattern) where
   -- there are such for what is left of both, in no more steps than both have with their marks
-  cat_told : (b : Bool) (r s : Pattern) (t u : ℕ) → CanTell b r t → CanTell b s u
+  cat_told : (b : Bool) (r s : MarkedPattern) (t u : ℕ) → CanTell b r t → CanTell b s u
       → (t + u) + (steps (aside r) + steps (aside s)) ≤ steps (spread p) + steps (spread q)
       → (v : ℕ) × CanTell b (cat r s) v × (v + steps (aside (cat r s)) ≤ steps (spread (cat p q)))
   cat_told b r s t u one two w = (
@@ -166,12 +167,12 @@ module _ (p q : Pattern) where
           let is : cat (mirror p) (mirror q) ≡ mirror (cat p q) =
           sym (ap (λ (x : Bool). if x then cat (mirror p) (mirror q) else cat (mirror q) (mirror p)) e) in
           let fits : all.0 + steps (aside (mirror (cat p q))) ≤ steps (spread (cat p q)) =
-          subst (λ (r : Pattern). all.0 + steps (aside r) ≤ steps (spread (cat p q))) is all.2 in
+          subst (λ (r : MarkedPattern). all.0 + steps (aside r) ≤ steps (spread (cat p q))) is all.2 in
           record {
             t = all.0;
-            can = subst (λ (r : Pattern). CanTell true r all.0) is all.1;
+            can = subst (λ (r : MarkedPattern). CanTell true r all.0) is all.1;
             fits = fits;
-            beside = subst (λ (r : Pattern). all.0 + steps_of (alternatives (aside r)) ≤ steps (spread (cat p q))) is all.2;
+            beside = subst (λ (r : MarkedPattern). all.0 + steps_of (alternatives (aside r)) ≤ steps (spread (cat p q))) is all.2;
           }
       by_test false e =
           let all = cat_told true (mirror q) (mirror p) w.t u.t w.can u.can (omega (arith, u.fits, w.fits)) in
@@ -179,13 +180,13 @@ module _ (p q : Pattern) where
           sym (ap (λ (x : Bool). if x then cat (mirror p) (mirror q) else cat (mirror q) (mirror p)) e) in
           record {
             t = all.0;
-            can = subst (λ (r : Pattern). CanTell true r all.0) is all.1;
-            fits = subst (λ (r : Pattern). all.0 + steps (aside r) ≤ steps (spread (cat p q))) is all.2;
-            beside = subst (λ (r : Pattern). all.0 + steps_of (alternatives (aside r)) ≤ steps (spread (cat p q))) is all.2;
+            can = subst (λ (r : MarkedPattern). CanTell true r all.0) is all.1;
+            fits = subst (λ (r : MarkedPattern). all.0 + steps (aside r) ≤ steps (spread (cat p q))) is all.2;
+            beside = subst (λ (r : MarkedPattern). all.0 + steps_of (alternatives (aside r)) ≤ steps (spread (cat p q))) is all.2;
           }
 
   -- of alternatives
-  told_alt : (b : Bool) (r s : Pattern) (t u : ℕ) → is_empty r ≡ is_empty p → is_class s ≡ is_class q → CanTell b r t → CanTell b s u
+  told_alt : (b : Bool) (r s : MarkedPattern) (t u : ℕ) → is_empty r ≡ is_empty p → is_class s ≡ is_class q → CanTell b r t → CanTell b s u
       → t + steps_of (alternatives (aside r)) ≤ steps_of (alternatives (spread p)) → u + steps (aside s) ≤ steps (spread q)
       → (CanTell b (alt r s) (t + u))
       × (t + u + steps (aside (alt r s)) ≤ steps (spread (alt p q)))
@@ -198,7 +199,7 @@ module _ (p q : Pattern) where
   )
 
 -- each pattern is told so, from either end
-pub told_so : (p : Pattern) → is_unmarked p ≡ true → (b : Bool) → IsTold b p
+pub told_so : (p : MarkedPattern) → is_unmarked p ≡ true → (b : Bool) → IsTold b p
 told_so empty h false = record { t = 0; can = none_needed false empty [] (λ fs. tt); fits = omega arith; beside = omega arith }
 told_so empty h true = record { t = 0; can = none_needed true empty [] (λ fs. tt); fits = omega arith; beside = omega arith }
 told_so (class m n rs) h false =
@@ -269,7 +270,7 @@ told_so (lookahead n p) h true =
     record { t = u.t; can = same_tells true (mirror p) (lookbehind n (mirror p)) u.t refl u.can; fits = fits; beside = fits }
 
 -- so a pattern is sought within twice its steps with a mark beside what each lookaround looks for
-pub sought_within : (most : ℕ) (p : Pattern) (text : List ℕ) → is_unmarked p ≡ true → 2 * steps (spread p) ≤ most → IsSoughtWithin most p text
+pub sought_within : (most : ℕ) (p : MarkedPattern) (text : List ℕ) → is_unmarked p ≡ true → 2 * steps (spread p) ≤ most → IsSoughtWithin most p text
 sought_within most p text bare few =
     let told = told_so p bare false in
     let tells = told.can [] [] tt in

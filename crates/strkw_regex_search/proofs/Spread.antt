@@ -1,9 +1,9 @@
 -- A pattern whose lookaheads are put aside takes no more steps than with a mark beside what each lookaround looks for.
 use Rattle.std.proofs.Common.{◌≡◌, ℕ, ◌+◌, ◌≤◌, Bool, true, false, ◌&&◌, [], refl, sym, ap, ◌∙◌, arith}
-use Rattle.strkw_regex_core.specs.Tree.{Pattern, empty, class, look, cat, alt, star, plus, lookbehind, lookahead}
+use Rattle.strkw_regex_core.specs.machine.MarkedPattern.{MarkedPattern, empty, class, look, cat, alt, star, plus, lookbehind, lookahead}
 use Rattle.strkw_regex_core.specs.Program.{is_class, is_empty, alternatives}
 use Rattle.strkw_regex_core.specs.Size.{steps_of, steps, spread, max_steps}
-use Rattle.strkw_regex_core.specs.Mirror.{mirror_if}
+use Rattle.strkw_regex_core.specs.machine.Mirror.{mirror_if}
 use Rattle.strkw_regex_core.specs.machine.Positions.{is_unmarked, is_clean}
 use Rattle.strkw_regex_search.specs.machine.OracleRunners.{IsFit}
 use Rattle.strkw_regex_search.specs.machine.OracleMarks.{slot, aside}
@@ -14,7 +14,7 @@ use Rattle.strkw_regex_core.proofs.Sizes.{cat_steps, alt_steps, beside_steps, st
 use Rattle.strkw_charset.proofs.Booleans.{and_true, and_left, and_right}
 
 -- it is nothing where that is
-pub aside_nothing : (p : Pattern) → is_empty (aside p) ≡ is_empty p
+pub aside_nothing : (p : MarkedPattern) → is_empty (aside p) ≡ is_empty p
 aside_nothing empty = refl
 aside_nothing (class m n rs) = refl
 aside_nothing (look l) = refl
@@ -26,7 +26,7 @@ aside_nothing (lookbehind n p) = refl
 aside_nothing (lookahead n p) = refl
 
 -- and a class where that is
-pub aside_class : (p : Pattern) → is_class (aside p) ≡ is_class p
+pub aside_class : (p : MarkedPattern) → is_class (aside p) ≡ is_class p
 aside_class empty = refl
 aside_class (class m n rs) = refl
 aside_class (look l) = refl
@@ -39,13 +39,13 @@ aside_class (lookahead n p) = refl
 
 -- of fewer steps, with some more
 -- alternatives, the first nothing and the second a class where those are
-pub fewer_alt : (t u : ℕ) (p q r s : Pattern) → is_empty p ≡ is_empty r → is_class q ≡ is_class s
+pub fewer_alt : (t u : ℕ) (p q r s : MarkedPattern) → is_empty p ≡ is_empty r → is_class q ≡ is_class s
     → t + steps_of (alternatives p) ≤ steps_of (alternatives r) → u + steps q ≤ steps s → t + u + steps (alt p q) ≤ steps (alt r s)
 fewer_alt t u p q r s nothing classes beside less = by_option (is_empty p && is_class q) refl
   where
     -- what is nothing takes no steps
-    none : (z : Pattern) → is_empty z ≡ true → steps_of (alternatives z) ≡ 0
-    none z e = ap (λ (y : Pattern). steps_of (alternatives y)) (nothing_is z e)
+    none : (z : MarkedPattern) → is_empty z ≡ true → steps_of (alternatives z) ≡ 0
+    none z e = ap (λ (y : MarkedPattern). steps_of (alternatives y)) (nothing_is z e)
 
     -- by whether they are a class that may be missing
     by_option : (b : Bool) → (is_empty p && is_class q) ≡ b → t + u + steps (alt p q) ≤ steps (alt r s)
@@ -61,7 +61,7 @@ fewer_alt t u p q r s nothing classes beside less = by_option (is_empty p && is_
     by_option false e = omega (arith, alt_steps p q e, alt_steps r s (sym (both_same _ _ _ _ nothing classes) ∙ e), beside, less)
 
 -- what is repeated, a class where the other is
-pub fewer_star : (t : ℕ) (p r : Pattern) → is_class p ≡ is_class r → t + steps p ≤ steps r → t + steps (star p) ≤ steps (star r)
+pub fewer_star : (t : ℕ) (p r : MarkedPattern) → is_class p ≡ is_class r → t + steps p ≤ steps r → t + steps (star p) ≤ steps (star r)
 fewer_star t p r classes less = by_class (is_class p) refl
   where
     by_class : (b : Bool) → is_class p ≡ b → t + steps (star p) ≤ steps (star r)
@@ -69,7 +69,7 @@ fewer_star t p r classes less = by_class (is_class p) refl
     by_class false e = omega (arith, star_steps p e, star_steps r (sym classes ∙ e), less)
 
 -- the same once or more
-pub fewer_plus : (t : ℕ) (p r : Pattern) → is_class p ≡ is_class r → t + steps p ≤ steps r → t + steps (plus p) ≤ steps (plus r)
+pub fewer_plus : (t : ℕ) (p r : MarkedPattern) → is_class p ≡ is_class r → t + steps p ≤ steps r → t + steps (plus p) ≤ steps (plus r)
 fewer_plus t p r classes less = by_class (is_class p) refl
   where
     by_class : (b : Bool) → is_class p ≡ b → t + steps (plus p) ≤ steps (plus r)
@@ -77,11 +77,11 @@ fewer_plus t p r classes less = by_class (is_class p) refl
     by_class false e = omega (arith, plus_steps p e, plus_steps r (sym classes ∙ e), less)
 
 -- by itself and among alternatives
-abbrev TakesLess : Pattern → Pattern → Type 0
+abbrev TakesLess : MarkedPattern → MarkedPattern → Type 0
 TakesLess p q = (steps p ≤ steps q) × (steps_of (alternatives p) ≤ steps_of (alternatives q))
 
 -- with no mark set a pattern takes no more so than with a mark beside each lookaround
-takes_less : (p : Pattern) → TakesLess (aside p) (spread p)
+takes_less : (p : MarkedPattern) → TakesLess (aside p) (spread p)
 takes_less empty = (omega arith, omega arith)
 takes_less (class m n rs) = (omega arith, omega arith)
 takes_less (look l) = (omega arith, omega arith)
@@ -116,11 +116,11 @@ takes_less (lookahead n p) =
     (less, less)
 
 -- so it has no more by itself
-pub aside_steps : (p : Pattern) → steps (aside p) ≤ steps (spread p)
+pub aside_steps : (p : MarkedPattern) → steps (aside p) ≤ steps (spread p)
 aside_steps p = (takes_less p).0
 
 -- it bears no mark where the pattern bears none
-pub aside_clean : (p : Pattern) → is_unmarked p ≡ true → is_clean (aside p) ≡ true
+pub aside_clean : (p : MarkedPattern) → is_unmarked p ≡ true → is_clean (aside p) ≡ true
 aside_clean empty h = refl
 aside_clean (class m n rs) h = h
 aside_clean (look l) h = refl
@@ -132,10 +132,10 @@ aside_clean (lookbehind n p) h = aside_clean p h
 aside_clean (lookahead n p) h = refl
 
 -- so it is fit where it takes few steps with those marks
-pub aside_fit : (p : Pattern) → is_unmarked p ≡ true → steps (spread p) ≤ max_steps → IsFit (aside p)
+pub aside_fit : (p : MarkedPattern) → is_unmarked p ≡ true → steps (spread p) ≤ max_steps → IsFit (aside p)
 aside_fit p h w = (omega (arith, w, aside_steps p), aside_clean p h)
 
 -- and so is what is made of it, looked for from either end
-pub facing_steps : (b : Bool) (p : Pattern) → steps (spread (mirror_if b p)) ≡ steps (spread p)
+pub facing_steps : (b : Bool) (p : MarkedPattern) → steps (spread (mirror_if b p)) ≡ steps (spread p)
 facing_steps false p = refl
 facing_steps true p = mirror_steps p

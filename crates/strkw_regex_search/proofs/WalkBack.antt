@@ -3,7 +3,8 @@ use Rattle.std.proofs.Common.{◌≡◌, ℕ, Bool, true, false, ◌&&◌, ◌||
 use Rattle.std.proofs.lemmas.Bool.Decides.{nat_tests}
 use Rattle.std.proofs.lemmas.List.{append_assoc, append-nil}
 use Rattle.strkw_charset.specs.declared.tree.CharSet.{CharSet}
-use Rattle.strkw_regex_core.specs.Tree.{Look, Pattern, empty, class, look, cat, alt, star, plus, lookbehind, lookahead}
+use Rattle.strkw_regex_core.specs.Tree.{Look}
+use Rattle.strkw_regex_core.specs.machine.MarkedPattern.{MarkedPattern, empty, class, look, cat, alt, star, plus, lookbehind, lookahead}
 use Rattle.strkw_charset.specs.Membership.{differ}
 use Rattle.strkw_regex_core.specs.Meaning.{holds}
 use Rattle.strkw_regex_core.specs.machine.Positions.{sees, leaves, marks_of}
@@ -15,7 +16,7 @@ use Rattle.strkw_regex_core.proofs.Options.{by_option}
 
 module _ (b a : Option ℕ) where
   -- whether a way through the pattern reads nothing
-  abbrev pub passes : Pattern → Bool
+  abbrev pub passes : MarkedPattern → Bool
   passes empty = true
   passes (class m n rs) = false
   passes (look l) = holds l b a
@@ -27,7 +28,7 @@ module _ (b a : Option ℕ) where
   passes (lookahead n p) = differ n (sees b a p)
 
   -- what leaves the body of each loop that is not entered, in the order in which they begin
-  abbrev pub agains : Pattern → List Bool
+  abbrev pub agains : MarkedPattern → List Bool
   agains empty = []
   agains (class m n rs) = []
   agains (look l) = []
@@ -39,7 +40,7 @@ module _ (b a : Option ℕ) where
   agains (lookahead n p) = []
 
 -- the same of two that are chosen by one pattern
-pub both_by_class : {A B : Type 0} (P : A → B → Type 0) (p : Pattern) (f : Bool → List CharSet → A) (x : A) (g : Bool → List CharSet → B) (y : B)
+pub both_by_class : {A B : Type 0} (P : A → B → Type 0) (p : MarkedPattern) (f : Bool → List CharSet → A) (x : A) (g : Bool → List CharSet → B) (y : B)
     → ((m n : Bool) (rs : List CharSet) → p ≡ class m n rs → P (f n rs) (g n rs)) → P x y → P (if_class p f x) (if_class p g y)
 both_by_class P (class m n rs) f x g y h k = h m n rs refl
 both_by_class P empty f x g y h k = k
@@ -57,7 +58,7 @@ same_asked s t e g r n = λ i. record { ends = e i; goes_on = g i; around = r i;
 
 module _ (b a : Option ℕ) where
   -- A way leaves the pattern that goes on from a mark in it, or that enters it and reads nothing.
-  pub leaves_split : (p : Pattern) (x : Bool) → leaves b a p x ≡ (leaves b a p false || (x && passes b a p))
+  pub leaves_split : (p : MarkedPattern) (x : Bool) → leaves b a p x ≡ (leaves b a p false || (x && passes b a p))
   leaves_split empty x = grind (arith, nat_tests)
   leaves_split (class m n rs) x = grind (arith, nat_tests)
   leaves_split (look l) x = refl
@@ -95,7 +96,7 @@ module _ (b a : Option ℕ) where
   leaves_split (lookahead n p) x = refl
 
   -- what is known before a pattern by what is known behind it
-  abbrev pub before : Pattern → Asked → Asked
+  abbrev pub before : MarkedPattern → Asked → Asked
   before p s =
       record {
         ends = s.ends && passes b a p;
@@ -105,19 +106,19 @@ module _ (b a : Option ℕ) where
       }
 
   -- what is known before one alternative of several, where e is known behind the last, and acc of those behind it
-  pub record IsBeside (p : Pattern) (e acc : Bool) (around : List Bool) (s t : Asked) : Type 0 where
+  pub record IsBeside (p : MarkedPattern) (e acc : Bool) (around : List Bool) (s t : Asked) : Type 0 where
     pub ends : (first_or_false t.around || t.ends) ≡ (acc || (e && passes b a p))
     pub around_is : below t.around ≡ e ∷ around
     pub goes_on : t.goes_on ≡ (s.goes_on || (e && leaves b a p false))
     pub again : t.again ≡ agains b a p ++ s.again
 
   -- what is known before a pattern by itself is known before it as one of several alternatives
-  alone : (p : Pattern) (e acc : Bool) (around : List Bool) (s t : Asked) → s.ends ≡ e → s.around ≡ acc ∷ e ∷ around → t ≡ before p s
+  alone : (p : MarkedPattern) (e acc : Bool) (around : List Bool) (s t : Asked) → s.ends ≡ e → s.around ≡ acc ∷ e ∷ around → t ≡ before p s
       → IsBeside p e acc around s t
   alone p e acc around s t ends is same = rw (same, ends, is) (record { ends = refl; around_is = refl; goes_on = refl; again = refl })
 
   -- what is known before the first of two alternatives, with the second behind it, is known before both
-  side_by_side : (p q : Pattern) (e acc : Bool) (around : List Bool) (s u t : Asked)
+  side_by_side : (p q : MarkedPattern) (e acc : Bool) (around : List Bool) (s u t : Asked)
       → u ≡ record {
         ends = e;
         goes_on = s.goes_on || (e && leaves b a q false);
@@ -142,7 +143,7 @@ module _ (b a : Option ℕ) where
       rejoin g e l m = grind (arith, nat_tests)
 
   -- what is known before a loop of any number of rounds, by what is known before its body
-  asked_star : (p : Pattern) (is : List Instruction) (ms : List Bool)
+  asked_star : (p : MarkedPattern) (is : List Instruction) (ms : List Bool)
       → asked b a (program p ++ (star_end ∷ is)) (marks_of p ++ ms) ≡ before p (asked b a (star_end ∷ is) ms)
       → asked b a ((star_begin ∷ (program p ++ (star_end ∷ []))) ++ is) (marks_of p ++ ms)
       ≡ record {
@@ -162,7 +163,7 @@ module _ (b a : Option ℕ) where
       ends e = grind (arith, nat_tests)
 
   -- and before a loop of one round or more
-  asked_plus : (p : Pattern) (is : List Instruction) (ms : List Bool)
+  asked_plus : (p : MarkedPattern) (is : List Instruction) (ms : List Bool)
       → asked b a (program p ++ (plus_end ∷ is)) (marks_of p ++ ms) ≡ before p (asked b a (plus_end ∷ is) ms)
       → asked b a ((plus_begin ∷ (program p ++ (plus_end ∷ []))) ++ is) (marks_of p ++ ms)
       ≡ record {
@@ -179,11 +180,11 @@ module _ (b a : Option ℕ) where
 
   -- of a pattern that stands alone, and of one that stands among alternatives
   -- what is known before its program is what `before` makes of what is known behind it
-  abbrev pub IsAsked : Pattern → Type 0
+  abbrev pub IsAsked : MarkedPattern → Type 0
   IsAsked p = (is : List Instruction) (ms : List Bool) → asked b a (program p ++ is) (marks_of p ++ ms) ≡ before p (asked b a is ms)
 
   -- and what is known before it among alternatives is as `IsBeside` says
-  abbrev pub IsAskedBeside : Pattern → Type 0
+  abbrev pub IsAskedBeside : MarkedPattern → Type 0
   IsAskedBeside p = (is : List Instruction) (ms : List Bool) (e acc : Bool) (around : List Bool)
       → (asked b a is ms).ends ≡ e → (asked b a is ms).around ≡ acc ∷ e ∷ around
       → IsBeside p e acc around (asked b a is ms) (asked b a (alternatives p ++ is) (marks_of p ++ ms))
@@ -209,7 +210,7 @@ module _ (b a : Option ℕ) where
       goes_on g e = grind (arith, nat_tests)
 
   -- so it is before two patterns, one behind the other, where it is before each
-  cat_asked : (p q : Pattern) → IsAsked p → IsAsked q → IsAsked (cat p q)
+  cat_asked : (p q : MarkedPattern) → IsAsked p → IsAsked q → IsAsked (cat p q)
   cat_asked p q first second is ms =
       let s = asked b a is ms in
       ap (λ (js : List Instruction). asked b a js ((marks_of p ++ marks_of q) ++ ms)) (append_assoc (program p) (program q) is)
@@ -229,7 +230,7 @@ module _ (b a : Option ℕ) where
       goes_on g e q l m = grind (arith, nat_tests)
 
   -- so it is before a choice between a fork and a join, where it is before both alternatives
-  asked_choice : (p q : Pattern) → IsAskedBeside p → IsAsked q → (is : List Instruction) (ms : List Bool)
+  asked_choice : (p q : MarkedPattern) → IsAskedBeside p → IsAsked q → (is : List Instruction) (ms : List Bool)
       → asked b a ((fork ∷ (alternatives p ++ (other ∷ (program q ++ (join ∷ []))))) ++ is) ((marks_of p ++ marks_of q) ++ ms)
       ≡ before (alt p q) (asked b a is ms)
   asked_choice p q first second is ms =
@@ -259,13 +260,13 @@ module _ (b a : Option ℕ) where
       goes_on g e l m = grind (arith, nat_tests)
 
   -- so it is before a choice, where it is before both alternatives
-  alt_asked : (p q : Pattern) → IsAskedBeside p → IsAsked q → IsAsked (alt p q)
+  alt_asked : (p q : MarkedPattern) → IsAskedBeside p → IsAsked q → IsAsked (alt p q)
   alt_asked p q first second is ms =
       by_option (λ (js : List Instruction). asked b a (js ++ is) ((marks_of p ++ marks_of q) ++ ms) ≡ before (alt p q) (asked b a is ms))
       p q _ _ (λ m n rs e f. rw (e, f) refl) (asked_choice p q first second is ms)
 
   -- and before a choice among alternatives
-  alt_asked_beside : (p q : Pattern) → IsAskedBeside p → IsAsked q → IsAskedBeside (alt p q)
+  alt_asked_beside : (p q : MarkedPattern) → IsAskedBeside p → IsAsked q → IsAskedBeside (alt p q)
   alt_asked_beside p q first second is ms e acc around ends is_around =
       let s = asked b a is ms in
       let known = second is ms in
@@ -277,7 +278,7 @@ module _ (b a : Option ℕ) where
       (ap (λ (t : Asked). (first_or_false t.around || t.ends) ∷ first_or_false (below t.around) ∷ below (below t.around)) known ∙ rw (is_around, ends) refl)))
 
   -- so it is before any number of rounds, where it is before one
-  star_asked : (p : Pattern) → IsAsked p → IsAsked (star p)
+  star_asked : (p : MarkedPattern) → IsAsked p → IsAsked (star p)
   star_asked p body is ms =
       both_by_class
       (λ (js : List Instruction) (bs : List Bool). asked b a (js ++ is) (marks_of p ++ ms)
@@ -290,7 +291,7 @@ module _ (b a : Option ℕ) where
       p _ _ _ _ (λ m n rs e. rw e refl) (asked_star p is ms (body (star_end ∷ is) ms))
 
   -- and before one round or more
-  plus_asked : (p : Pattern) → IsAsked p → IsAsked (plus p)
+  plus_asked : (p : MarkedPattern) → IsAsked p → IsAsked (plus p)
   plus_asked p body is ms =
       both_by_class
       (λ (js : List Instruction) (bs : List Bool). asked b a (js ++ is) (marks_of p ++ ms)
@@ -303,7 +304,7 @@ module _ (b a : Option ℕ) where
       p _ _ _ _ (λ m n rs e. rw e refl) (asked_plus p is ms (body (plus_end ∷ is) ms))
 
   -- so it is before a lookbehind, where it is before its body, which a way enters at each place
-  behind_asked : (n : Bool) (p : Pattern) → IsAsked p → IsAsked (lookbehind n p)
+  behind_asked : (n : Bool) (p : MarkedPattern) → IsAsked p → IsAsked (lookbehind n p)
   behind_asked n p body is ms =
       let s = asked b a is ms in
       ap (λ (js : List Instruction). asked b a (look_begin n ∷ js) (marks_of p ++ ms)) (append_assoc (program p) (look_end n ∷ []) is)
@@ -315,7 +316,7 @@ module _ (b a : Option ℕ) where
       goes_on g e = grind (arith, nat_tests)
 
   -- what is known before a lookahead, where what it looks for lets pass where it is seen
-  ahead_asked_by : (n : Bool) (p : Pattern) (is : List Instruction) (ms : List Bool)
+  ahead_asked_by : (n : Bool) (p : MarkedPattern) (is : List Instruction) (ms : List Bool)
       → asked b a (glance p ++ (look_end n ∷ is)) ms
       ≡ record {
         ends = true && sees b a p;
@@ -335,7 +336,7 @@ module _ (b a : Option ℕ) where
       ∙ ap (back_over b a (look_begin n) (first_or_false ms)) known
 
   -- what is known before what a lookahead looks for, by what is known behind it
-  abbrev before_glance : Pattern → Asked → Asked
+  abbrev before_glance : MarkedPattern → Asked → Asked
   before_glance p s =
       record {
         ends = s.ends && sees b a p;
@@ -353,7 +354,7 @@ module _ (b a : Option ℕ) where
       ends e = grind (arith, nat_tests)
 
   -- and a glance lets pass where it is seen
-  glance_asked : (p : Pattern) (is : List Instruction) (ms : List Bool) → asked b a (glance p ++ is) ms ≡ before_glance p (asked b a is ms)
+  glance_asked : (p : MarkedPattern) (is : List Instruction) (ms : List Bool) → asked b a (glance p ++ is) ms ≡ before_glance p (asked b a is ms)
   glance_asked empty is ms = nothing_glanced is ms
   glance_asked (class m n rs) is ms = refl
   glance_asked (look l) is ms = refl
@@ -376,7 +377,7 @@ module _ (b a : Option ℕ) where
       ahead_asked_by n p is ms (glance_asked p (look_end n ∷ is) ms)
 
   -- so it is before a lookahead
-  ahead_asked : (n : Bool) (p : Pattern) → IsAsked (lookahead n p)
+  ahead_asked : (n : Bool) (p : MarkedPattern) → IsAsked (lookahead n p)
   ahead_asked n p is ms =
       let s = asked b a is ms in
       ahead_asked_by n p is ms (glance_asked p (look_end n ∷ is) ms) ∙ same_asked _ _ refl (goes_on s.goes_on s.ends) refl refl
@@ -386,7 +387,7 @@ module _ (b a : Option ℕ) where
       goes_on g e = grind (arith, nat_tests)
 
   -- a pattern whose program is the same among alternatives is asked so there too, if it is alone
-  alone_beside : (p : Pattern) → alternatives p ≡ program p → IsAsked p → IsAsked p × IsAskedBeside p
+  alone_beside : (p : MarkedPattern) → alternatives p ≡ program p → IsAsked p → IsAsked p × IsAskedBeside p
   alone_beside p same known = (
     known,
     λ is ms e acc around ends is_around.
@@ -394,7 +395,7 @@ module _ (b a : Option ℕ) where
   )
 
   -- so each pattern is asked so, alone and among alternatives
-  asked_both : (p : Pattern) → IsAsked p × IsAskedBeside p
+  asked_both : (p : MarkedPattern) → IsAsked p × IsAskedBeside p
   asked_both empty = alone_beside empty refl nothing_asked
   asked_both (class m n rs) = alone_beside (class m n rs) refl (λ is ms. refl)
   asked_both (look l) = alone_beside (look l) refl (look_asked l)
@@ -407,7 +408,7 @@ module _ (b a : Option ℕ) where
   asked_both (lookahead n p) = alone_beside (lookahead n p) refl (ahead_asked n p)
 
   -- what leaves each loop of a program
-  pub asked_again : (p : Pattern) (ms : List Bool) → (asked b a (program p) (marks_of p ++ ms)).again ≡ agains b a p
+  pub asked_again : (p : MarkedPattern) (ms : List Bool) → (asked b a (program p) (marks_of p ++ ms)).again ≡ agains b a p
   asked_again p ms =
       ap (λ (js : List Instruction). (asked b a js (marks_of p ++ ms)).again) (sym (append-nil (program p)))
       ∙ ap (λ (s : Asked). s.again) ((asked_both p).0 [] ms) ∙ append-nil (agains b a p)

@@ -3,7 +3,7 @@
 ghost use Rattle.std.specs.Prelude.{◌≡◌, true, [], ◌∷◌, length, MatchOption};
 ghost use Rattle.std.specs.Str.{chars, is_utf8};
 ghost use Rattle.std.specs.Str.Iter.{chars_rest};
-ghost use Rattle.strkw_regex_core.specs.Mirror.{along};
+ghost use Rattle.strkw_regex_core.specs.machine.Mirror.{along};
 
 use std::str::Chars;
 

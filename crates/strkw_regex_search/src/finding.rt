@@ -2,8 +2,8 @@
 
 ghost use Rattle.std.specs.Prelude.{◌≡◌, ◌↔◌, true, IsTrue, None};
 ghost use Rattle.std.specs.Str.{chars};
-ghost use Rattle.strkw_regex_core.specs.Meaning.{Found};
-ghost use Rattle.strkw_regex_core.specs.Mirror.{along};
+ghost use Rattle.strkw_regex_core.specs.machine.MarkedMeaning.{Found};
+ghost use Rattle.strkw_regex_core.specs.machine.Mirror.{along};
 ghost use Rattle.strkw_regex_core.specs.OneCharLookahead.{are_told};
 ghost use Rattle.strkw_regex_core.specs.machine.Positions.{is_clean};
 ghost use Rattle.strkw_regex_search.specs.machine.Search.{search_from};

@@ -2,7 +2,8 @@
 
 ghost use Rattle.std.specs.Prelude.{◌≡◌, ◌++◌, [], false, List, IfOk, if◌then◌else◌};
 ghost use Rattle.strkw_regex_core.specs.Program.{concat_copies};
-ghost use Rattle.strkw_regex_core.specs.Tree.{cat, end, look, start};
+ghost use Rattle.strkw_regex_core.specs.machine.MarkedPattern.{cat, look};
+ghost use Rattle.strkw_regex_core.specs.Tree.{end, start};
 ghost use Rattle.strkw_regex_core.specs.machine.Shape.{outline_pattern, quantifier_of};
 ghost use Rattle.strkw_regex_search.specs.machine.OracleMarks.{all_copies, slot as spec_slot};
 ghost use Rattle.strkw_regex_search.specs.machine.OraclePasses.{AreAsides, MayBePut, PutsAside, PutsBoth, PutsLook, SetsAside, TellsAside, OracleQuery};

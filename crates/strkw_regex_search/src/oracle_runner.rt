@@ -2,8 +2,8 @@
 
 ghost use Rattle.std.specs.Prelude.{◌≡◌, ◌≤◌, true, length, None, IfOk};
 ghost use Rattle.std.specs.Str.{chars};
-ghost use Rattle.strkw_regex_core.specs.Mirror.{along};
-ghost use Rattle.strkw_regex_core.specs.Tree.{Pattern};
+ghost use Rattle.strkw_regex_core.specs.machine.Mirror.{along};
+ghost use Rattle.strkw_regex_core.specs.machine.MarkedPattern.{MarkedPattern};
 ghost use Rattle.strkw_regex_search.specs.machine.OracleMarks.{told_by};
 ghost use Rattle.strkw_regex_search.specs.machine.Bits.{bits_of, rows_of as spec_rows_of};
 ghost use Rattle.strkw_regex_search.specs.machine.Machine.{pattern_of};
@@ -40,7 +40,7 @@ fn is_said(rows: &[Bits], row: usize, ahead: usize) -> bool
 // text on.
 fn tell(marks: &mut [bool], told: &[Option<usize>], rows: &[Bits], ahead: usize)
     ensures length { length marks.new ≡ length marks.old }
-    ensures marks { (p : Pattern) → classes p ≤ length marks.old → mark_classes marks.new p
+    ensures marks { (p : MarkedPattern) → classes p ≤ length marks.old → mark_classes marks.new p
         ≡ told_by (row_answer (spec_rows_of rows.now) ahead) told.now (mark_classes marks.old p) }
 {
     for (place, row) in told.iter().enumerate() {

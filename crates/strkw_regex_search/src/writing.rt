@@ -1,8 +1,8 @@
 //! How the program of an outline is written.
 
 ghost use Rattle.std.specs.Prelude.{◌≡◌, ◌≤◌, ◌+◌, ◌++◌, length, IfOk};
-ghost use Rattle.strkw_regex_core.specs.Tree.{empty, alt, star, plus};
-ghost use Rattle.strkw_regex_core.specs.Times.{quantified_pattern, repetition};
+ghost use Rattle.strkw_regex_core.specs.machine.MarkedPattern.{empty, alt, star, plus};
+ghost use Rattle.strkw_regex_core.specs.machine.Times.{quantified_pattern, repetition};
 ghost use Rattle.strkw_regex_core.specs.Program.{glance, program, alternatives};
 ghost use Rattle.strkw_regex_core.specs.machine.Shape.{outline_pattern, quantifier_of};
 ghost use Rattle.strkw_regex_search.specs.machine.Machine.{Writes};

@@ -13,17 +13,20 @@ STEPS_OF_MEMBERS = {TWO_STEPS: 2, THREE_STEPS: 3}
 LEXEMES = re.compile(
     r"\(\?<?[=!]|\(\?:|\(\?<\w+>|[()|]|(?:\*|\+|\?|\{\d+(?:,\d*)?\})\??|\[[^]]*\]|\\[pP]\{[^}]*\}|\\.|.", re.DOTALL)
 EDGES = ("^", "$", "\\b", "\\B")
+# The bounds of the quantifiers that have a sign of their own.
+SIGNS = {"*": (0, None), "+": (1, None), "?": (0, 1)}
 
 
 def quantified(body, sign):
-    """A term with its quantifier; the most is `None` where it has no end."""
+    """A term with its quantifier, by its bounds alone; the most is `None` where it has no end."""
     sign = sign.rstrip("?") or "?"
-    if sign[0] != "{":
-        return ["repeat", sign, body, {"*": 0, "+": 1, "?": 0}[sign], {"*": None, "+": None, "?": 1}[sign]]
-    least, *most = sign.strip("{}").split(",")
-    if not most:
-        return ["repeat", "=", body, int(least), int(least)]
-    return ["repeat", ",", body, int(least), int(most[0]) if most[0] else None]
+    if sign[0] == "{":
+        least, *most = sign.strip("{}").split(",")
+        bounds = int(least), int(least) if not most else int(most[0]) if most[0] else None
+    else:
+        bounds = SIGNS[sign]
+    kinds = {bounds: sign for sign, bounds in SIGNS.items()}
+    return ["repeat", kinds.get(bounds, "=" if bounds[0] == bounds[1] else ","), body, *bounds]
 
 
 def tree_of(pattern):

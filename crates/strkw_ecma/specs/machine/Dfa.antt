@@ -5,7 +5,7 @@ use Rattle.std.specs.Prelude.{◌≡◌, ℕ, ◌+◌, ◌*◌, ◌/◌, ◌≤�
 use Rattle.std.specs.Prelude.{◌∷◌, length, Vec, Option, Some, None, option_and_then, get_or}
 use Rattle.std.specs.Prelude.{slice_get, if◌then◌else◌}
 use Rattle.std.specs.declared.alloc.Global.{Global}
-use Rattle.strkw_regex_core.specs.Tree.{Pattern}
+use Rattle.strkw_regex_core.specs.machine.MarkedPattern.{MarkedPattern}
 use Rattle.strkw_regex_core.specs.Meaning.{is_word, is_edge}
 use Rattle.strkw_regex_core.specs.machine.Positions.{leaves, step, mark_classes}
 use Rattle.strkw_regex_search.specs.machine.Search.{search_from}
@@ -52,7 +52,7 @@ pub record AreInside (end : ℕ) (entries : List ℕ) : Type 0 where
   pub leads : (i : ℕ) → i < length entries → IsInside end entries i
 
 -- what the search by this table comes to is what the search of the pattern does
-abbrev pub Searches : (ℕ → Option ℕ) → ℕ → List ℕ → Pattern → Type 0
+abbrev pub Searches : (ℕ → Option ℕ) → ℕ → List ℕ → MarkedPattern → Type 0
 Searches column end entries p = (text : List ℕ) (b : Bool) → walk column end entries 0 text ≡ Some b
     → b ≡ search_from p None text
 
@@ -62,24 +62,24 @@ IsRowOf end states row s = (n : ℕ) × (row ≡ n * (end + 1)) × (slice_get st
 
 -- the state of the row has these marks, and stands behind a character that the pattern does not
 -- tell from c
-abbrev pub IsBehind : Pattern → ℕ → List State → ℕ → List Bool → ℕ → Type 0
+abbrev pub IsBehind : MarkedPattern → ℕ → List State → ℕ → List Bool → ℕ → Type 0
 IsBehind p end states row ms c =
     (t : State) × IsRowOf end states row t × (t.marks.items ≡ ms)
     × (has_boundary p ≡ true → is_word t.last ≡ is_word (Some c)) × (is_edge t.last ≡ false)
 
 -- the state of the number has these marks, and stands behind a character that the pattern does not
 -- tell from c
-abbrev pub IsStateOf : Pattern → List State → ℕ → List Bool → ℕ → Type 0
+abbrev pub IsStateOf : MarkedPattern → List State → ℕ → List Bool → ℕ → Type 0
 IsStateOf p states n ms c =
     (t : State) × (slice_get states n ≡ Some t) × (t.marks.items ≡ ms)
     × (has_boundary p ≡ true → is_word t.last ≡ is_word (Some c)) × (is_edge t.last ≡ false)
 
 -- the pattern with the marks of a state
-abbrev pub marks_in : Pattern → State → Pattern
+abbrev pub marks_in : MarkedPattern → State → MarkedPattern
 marks_in p s = mark_classes s.marks.items p
 
 -- the entry of a row is right for a state of the search and the next character
-pub record IsEntry (p : Pattern) (end : ℕ) (states : List State) (s : State) (row c entry : ℕ)
+pub record IsEntry (p : MarkedPattern) (end : ℕ) (states : List State) (s : State) (row c entry : ℕ)
     : Type 0 where
   pub finds : (entry == found_row) ≡ leaves s.last (Some c) (marks_in p s) true
   pub goes : leaves s.last (Some c) (marks_in p s) true ≡ false
@@ -87,7 +87,7 @@ pub record IsEntry (p : Pattern) (end : ℕ) (states : List State) (s : State) (
       × IsBehind p end states (row_after end row entry) ms c
 
 -- the row is right for a state, and for the character that stands for each column
-pub record IsRow (p : Pattern) (samples entries : List ℕ) (states : List State) (s : State)
+pub record IsRow (p : MarkedPattern) (samples entries : List ℕ) (states : List State) (s : State)
     (row : ℕ) : Type 0 where
   pub ends : (entry_at entries row (length samples) == found_row)
       ≡ leaves s.last None (marks_in p s) true
@@ -95,13 +95,13 @@ pub record IsRow (p : Pattern) (samples entries : List ℕ) (states : List State
       → IsEntry p (length samples) states s row (get_or samples k 0) (entry_at entries row k)
 
 -- each row is right for its state
-abbrev pub AreRows : Pattern → List ℕ → List ℕ → List State → Type 0
+abbrev pub AreRows : MarkedPattern → List ℕ → List ℕ → List State → Type 0
 AreRows p samples entries states =
     (row : ℕ) (s : State) → IsRowOf (length samples) states row s
     → IsRow p samples entries states s row
 
 -- the states of the numbers below this have a row each, which is right
-pub record IsDraft (p : Pattern) (samples entries : List ℕ) (states : List State) (number : ℕ)
+pub record IsDraft (p : MarkedPattern) (samples entries : List ℕ) (states : List State) (number : ℕ)
     : Type 0 where
   pub placed : length entries ≡ number * (length samples + 1)
   pub rows : (n : ℕ) → n < number
@@ -109,7 +109,7 @@ pub record IsDraft (p : Pattern) (samples entries : List ℕ) (states : List Sta
       × IsRow p samples entries states s (n * (length samples + 1))
 
 -- behind the entries of a draft, so many are right for the state of the number
-pub record AreEntries (p : Pattern) (samples before after : List ℕ) (states later : List State)
+pub record AreEntries (p : MarkedPattern) (samples before after : List ℕ) (states later : List State)
     (number columns : ℕ) : Type 0 where
   pub entries_stay : IsFront before after
   pub states_stay : IsFront states later
@@ -130,7 +130,7 @@ SayTheSame end es fs =
 
 -- the table is right, with a state for each row and a character for each column, for a pattern
 pub record IsTable (classes : List (Vec CharSet Global)) (keys samples entries : List ℕ)
-    (states : List State) (p : Pattern) : Type 0 where
+    (states : List State) (p : MarkedPattern) : Type 0 where
   pub few : length classes ≤ 64
   pub few_columns : length keys < 256
   pub told : Tells classes p

@@ -1,9 +1,10 @@
 -- A character that each match of a pattern reads.
 use Rattle.std.specs.Prelude.{ℕ, nat_lt, Bool, true, false, ◌&&◌, ◌==◌, List, [], ◌∷◌, Option, Some}
 use Rattle.std.specs.Prelude.{None, if◌then◌else◌}
-use Rattle.strkw_regex_core.specs.Tree.{Pattern, class, cat, alt, plus}
-use Rattle.strkw_regex_core.specs.Times.{Times, any_times, some_times, once_at_most, exact_times}
-use Rattle.strkw_regex_core.specs.Times.{least_times, range_times}
+use Rattle.strkw_regex_core.specs.machine.MarkedPattern.{MarkedPattern, class, cat, alt, plus}
+use Rattle.strkw_regex_core.specs.machine.Times.{Times, any_times, some_times, once_at_most}
+use Rattle.strkw_regex_core.specs.machine.Times.{exact_times}
+use Rattle.strkw_regex_core.specs.machine.Times.{least_times, range_times}
 use Rattle.strkw_charset.specs.declared.tree.CharSet.{CharSet}
 use Rattle.strkw_charset.specs.declared.tree.CharSet.TheVariants.{Range, Property}
 
@@ -35,7 +36,7 @@ is_sure (least_times n) = nat_lt 0 n
 is_sure (range_times n m) = nat_lt 0 n
 
 -- the character, if one is seen; of terms in a row, that of the last that has one
-abbrev pub needed_char : Pattern → Option ℕ
+abbrev pub needed_char : MarkedPattern → Option ℕ
 needed_char (class m n rs) = if n then None else only_character rs
 needed_char (cat p q) = later (needed_char p) (needed_char q)
 needed_char (alt p q) = common (needed_char p) (needed_char q)

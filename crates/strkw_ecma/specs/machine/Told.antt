@@ -1,15 +1,16 @@
 -- What the answers about a character tell of a pattern.
 use Rattle.std.specs.Prelude.{◌≡◌, true, List, Vec}
 use Rattle.std.specs.declared.alloc.Global.{Global}
-use Rattle.strkw_regex_core.specs.Tree.{Pattern, empty, class, look, cat, alt, star, plus}
-use Rattle.strkw_regex_core.specs.Tree.{lookbehind, lookahead}
+use Rattle.strkw_regex_core.specs.machine.MarkedPattern.{MarkedPattern, empty, class, look, cat}
+use Rattle.strkw_regex_core.specs.machine.MarkedPattern.{alt, star, plus}
+use Rattle.strkw_regex_core.specs.machine.MarkedPattern.{lookbehind, lookahead}
 use Rattle.strkw_regex_core.specs.Program.{asks_word}
 use Rattle.strkw_charset.specs.Sets.{word_characters}
 use Rattle.strkw_charset.specs.declared.tree.CharSet.{CharSet}
 use Rattle.strkw_charset.specs.machine.CharClasses.{TellsSets}
 
 -- the answers tell all that a glance asks about a character
-abbrev pub TellsGlance : List (Vec CharSet Global) → Pattern → Type 0
+abbrev pub TellsGlance : List (Vec CharSet Global) → MarkedPattern → Type 0
 TellsGlance classes empty = Unit {0}
 TellsGlance classes (class m n rs) = TellsSets classes rs
 TellsGlance classes (look l) = asks_word l ≡ true → TellsSets classes word_characters
@@ -21,7 +22,7 @@ TellsGlance classes (lookbehind n p) = Unit {0}
 TellsGlance classes (lookahead n p) = TellsGlance classes p
 
 -- the answers tell all that a pattern asks about a character
-abbrev pub Tells : List (Vec CharSet Global) → Pattern → Type 0
+abbrev pub Tells : List (Vec CharSet Global) → MarkedPattern → Type 0
 Tells classes empty = Unit {0}
 Tells classes (class m n rs) = TellsSets classes rs
 Tells classes (look l) = asks_word l ≡ true → TellsSets classes word_characters

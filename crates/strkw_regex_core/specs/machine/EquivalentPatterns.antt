@@ -1,14 +1,14 @@
 -- Patterns that come to the same.
 use Rattle.std.specs.Prelude.{◌≡◌, ◌↔◌, ℕ, true, List}
-use Rattle.strkw_regex_core.specs.Tree.{Pattern}
-use Rattle.strkw_regex_core.specs.Meaning.{Matches}
+use Rattle.strkw_regex_core.specs.machine.MarkedPattern.{MarkedPattern}
+use Rattle.strkw_regex_core.specs.machine.MarkedMeaning.{Matches}
 use Rattle.strkw_regex_core.specs.Program.{is_class, is_empty, glance, alternatives}
 use Rattle.strkw_regex_core.specs.OneCharLookahead.{is_glance, are_told}
 use Rattle.strkw_regex_core.specs.Size.{steps_of, steps, spread}
 use Rattle.strkw_regex_core.specs.machine.Positions.{is_unmarked}
 
 -- Two patterns match the same, and a search for the one takes as many steps as one for the other.
-pub record EquivalentPatterns (p q : Pattern) : Type 0 where
+pub record EquivalentPatterns (p q : MarkedPattern) : Type 0 where
   pub meaning : (text : List ℕ) (i j : ℕ) → Matches text p i j ↔ Matches text q i j
   pub nothing : is_empty p ≡ is_empty q
   pub class : is_class p ≡ is_class q

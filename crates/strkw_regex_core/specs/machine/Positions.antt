@@ -2,10 +2,12 @@
 -- character before it.
 use Rattle.std.specs.Prelude.{◌≡◌, ◌↔◌, ℕ, ◌+◌, ◌<◌, ◌≤◌, get_or, drop, Bool, true, false, ◌&&◌}
 use Rattle.std.specs.Prelude.{◌||◌, not, ◌⊎◌, List, [], ◌∷◌, ◌++◌, length, Option, Some, None}
-use Rattle.strkw_regex_core.specs.Tree.{Pattern, empty, class, look, cat, alt, star, plus}
-use Rattle.strkw_regex_core.specs.Tree.{lookbehind, lookahead}
+use Rattle.strkw_regex_core.specs.machine.MarkedPattern.{MarkedPattern, empty, class, look, cat}
+use Rattle.strkw_regex_core.specs.machine.MarkedPattern.{alt, star, plus}
+use Rattle.strkw_regex_core.specs.machine.MarkedPattern.{lookbehind, lookahead}
 use Rattle.strkw_charset.specs.Membership.{differ, is_member}
-use Rattle.strkw_regex_core.specs.Meaning.{Rounds, holds, Matches}
+use Rattle.strkw_regex_core.specs.machine.MarkedMeaning.{Rounds, Matches}
+use Rattle.strkw_regex_core.specs.Meaning.{holds}
 use Rattle.strkw_charset.specs.declared.tree.CharSet.{CharSet}
 
 -- there is a character, and the class has it
@@ -15,7 +17,7 @@ reads (Some c) n rs = is_member n rs c
 
 module _ (b a : Option ℕ) where
   -- whether a glance (`is_glance`) matches from between b and a on
-  abbrev pub sees : Pattern → Bool
+  abbrev pub sees : MarkedPattern → Bool
   sees empty = true
   sees (class m n rs) = reads a n rs
   sees (look l) = holds l b a
@@ -27,10 +29,10 @@ module _ (b a : Option ℕ) where
   sees (lookahead n p) = differ n (sees p)
 
 -- Here `see` says of a lookahead whether what it looks for is there.
-module _ (see : Pattern → Bool) (b a : Option ℕ) where
+module _ (see : MarkedPattern → Bool) (b a : Option ℕ) where
   -- Between the characters b and a: does a way through the pattern end here that went on from a
   -- mark or, where `enters` holds, began here?
-  abbrev pub leaves_by : Pattern → Bool → Bool
+  abbrev pub leaves_by : MarkedPattern → Bool → Bool
   leaves_by empty enters = enters
   leaves_by (class m n rs) enters = m
   leaves_by (look l) enters = enters && holds l b a
@@ -43,7 +45,7 @@ module _ (see : Pattern → Bool) (b a : Option ℕ) where
   leaves_by (lookahead n p) enters = enters && differ n (see p)
 
   -- the marks after the character a is read
-  abbrev pub step_by : Pattern → Bool → Pattern
+  abbrev pub step_by : MarkedPattern → Bool → MarkedPattern
   step_by empty enters = empty
   step_by (class m n rs) enters = class (enters && reads a n rs) n rs
   step_by (look l) enters = look l
@@ -56,14 +58,14 @@ module _ (see : Pattern → Bool) (b a : Option ℕ) where
 
 -- where the next character tells what lookaheads look for
 module _ (b a : Option ℕ) where
-  abbrev pub leaves : Pattern → Bool → Bool
+  abbrev pub leaves : MarkedPattern → Bool → Bool
   leaves = leaves_by (sees b a) b a
 
-  abbrev pub step : Pattern → Bool → Pattern
+  abbrev pub step : MarkedPattern → Bool → MarkedPattern
   step = step_by (sees b a) b a
 
 -- at place i a way through the pattern goes on from some mark, and ends at j
-abbrev pub Rest : List ℕ → Pattern → ℕ → ℕ → Type 0
+abbrev pub Rest : List ℕ → MarkedPattern → ℕ → ℕ → Type 0
 Rest text empty i j = ⊥
 Rest text (class m n rs) i j = (m ≡ true) × (i ≡ j)
 Rest text (look l) i j = ⊥
@@ -75,19 +77,19 @@ Rest text (lookbehind n p) i j = ⊥
 Rest text (lookahead n p) i j = ⊥
 
 -- the pattern matches up to j from some place before i, and j is not before i
-abbrev pub Crosses : List ℕ → Pattern → ℕ → ℕ → Type 0
+abbrev pub Crosses : List ℕ → MarkedPattern → ℕ → ℕ → Type 0
 Crosses text p i j = (k : ℕ) × (k < i) × (i ≤ j) × Matches text p k j
 
 -- Here `see` says at each place of a lookahead whether what it looks for is there.
-module _ (see : ℕ → Pattern → Bool) where
+module _ (see : ℕ → MarkedPattern → Bool) where
   -- what is said is so
-  abbrev pub IsToldBy : List ℕ → Pattern → Type 0
+  abbrev pub IsToldBy : List ℕ → MarkedPattern → Type 0
   IsToldBy text p = (i : ℕ) → i ≤ length text
       → (see i p ≡ true) ↔ ((k : ℕ) × Matches text p i k)
 
   -- the marks within lookbehinds at place i are those of all ways that have begun before i, and
   -- what is said of lookaheads is so
-  abbrev pub Kept : List ℕ → Pattern → ℕ → Type 0
+  abbrev pub Kept : List ℕ → MarkedPattern → ℕ → Type 0
   Kept text empty i = Unit {0}
   Kept text (class m n rs) i = Unit {0}
   Kept text (look l) i = Unit {0}
@@ -99,12 +101,12 @@ module _ (see : ℕ → Pattern → Bool) where
   Kept text (lookahead n p) i = IsToldBy text p
 
 -- at place k a match is under way, or one begins at k or later
-abbrev pub Later : List ℕ → Pattern → ℕ → Type 0
+abbrev pub Later : List ℕ → MarkedPattern → ℕ → Type 0
 Later text p k = ((j : ℕ) × Rest text p k j)
     ⊎ ((i j : ℕ) × (k ≤ i) × (i ≤ length text) × Matches text p i j)
 
 -- how many classes stand in a pattern, outside lookaheads
-abbrev pub classes : Pattern → ℕ
+abbrev pub classes : MarkedPattern → ℕ
 classes empty = 0
 classes (class m n rs) = 1
 classes (look l) = 0
@@ -116,7 +118,7 @@ classes (lookbehind n p) = classes p
 classes (lookahead n p) = 0
 
 -- the pattern with the first marks of a list, in the order of its classes
-abbrev pub mark_classes : List Bool → Pattern → Pattern
+abbrev pub mark_classes : List Bool → MarkedPattern → MarkedPattern
 mark_classes ms empty = empty
 mark_classes ms (class m n rs) = class (get_or ms 0 false) n rs
 mark_classes ms (look l) = look l
@@ -128,7 +130,7 @@ mark_classes ms (lookbehind n p) = lookbehind n (mark_classes ms p)
 mark_classes ms (lookahead n p) = lookahead n p
 
 -- no class bears a mark
-abbrev pub is_clean : Pattern → Bool
+abbrev pub is_clean : MarkedPattern → Bool
 is_clean empty = true
 is_clean (class m n rs) = not m
 is_clean (look l) = true
@@ -140,7 +142,7 @@ is_clean (lookbehind n p) = is_clean p
 is_clean (lookahead n p) = true
 
 -- no class bears a mark, in lookaheads as elsewhere
-abbrev pub is_unmarked : Pattern → Bool
+abbrev pub is_unmarked : MarkedPattern → Bool
 is_unmarked empty = true
 is_unmarked (class m n rs) = not m
 is_unmarked (look l) = true
@@ -152,7 +154,7 @@ is_unmarked (lookbehind n p) = is_unmarked p
 is_unmarked (lookahead n p) = is_unmarked p
 
 -- the marks of a pattern, in the order of its classes
-abbrev pub marks_of : Pattern → List Bool
+abbrev pub marks_of : MarkedPattern → List Bool
 marks_of empty = []
 marks_of (class m n rs) = m ∷ []
 marks_of (look l) = []

@@ -1,9 +1,13 @@
 -- What an outline of the code stands for, and its instructions.
 use Rattle.std.specs.Prelude.{Bool, true, false, ◌&&◌, ◌==◌}
-use Rattle.strkw_regex_core.specs.Tree.{Pattern, empty, class, look, cat, alt, start, end, boundary}
-use Rattle.strkw_regex_core.specs.Tree.{no_boundary, lookbehind, lookahead}
-use Rattle.strkw_regex_core.specs.Times.{Times, any_times, some_times, once_at_most, exact_times}
-use Rattle.strkw_regex_core.specs.Times.{least_times, range_times, quantified_pattern}
+use Rattle.strkw_regex_core.specs.machine.MarkedPattern.{MarkedPattern, empty, class, look, cat}
+use Rattle.strkw_regex_core.specs.machine.MarkedPattern.{alt}
+use Rattle.strkw_regex_core.specs.Tree.{start, end, boundary}
+use Rattle.strkw_regex_core.specs.Tree.{no_boundary}
+use Rattle.strkw_regex_core.specs.machine.MarkedPattern.{lookbehind, lookahead}
+use Rattle.strkw_regex_core.specs.machine.Times.{Times, any_times, some_times, once_at_most}
+use Rattle.strkw_regex_core.specs.machine.Times.{exact_times}
+use Rattle.strkw_regex_core.specs.machine.Times.{least_times, range_times, quantified_pattern}
 use Rattle.strkw_regex_core.specs.declared.counted_regex.Quantifier.{Quantifier as CodeQuantifier}
 use Rattle.strkw_regex_core.specs.declared.counted_regex.Quantifier.TheVariants as quantifier
 use Rattle.strkw_regex_core.specs.declared.counted_regex.CountedRegex.{CountedRegex}
@@ -28,7 +32,7 @@ quantifier_of (quantifier.AtLeast n) = least_times n
 quantifier_of (quantifier.FromTo n m) = range_times n m
 
 -- one node of an outline, with the patterns of its children in their places
-abbrev pub outline_node : CountedRegex-F Pattern → Pattern
+abbrev pub outline_node : CountedRegex-F MarkedPattern → MarkedPattern
 outline_node CountedRegex-F.Empty = empty
 outline_node (CountedRegex-F.Class negated sets) = class false negated sets.items
 outline_node CountedRegex-F.Start = look start
@@ -41,8 +45,8 @@ outline_node (CountedRegex-F.Repeated q body) = quantified_pattern (quantifier_o
 outline_node (CountedRegex-F.Behind negated body) = lookbehind negated body.value
 outline_node (CountedRegex-F.Ahead negated body) = lookahead negated body.value
 
-abbrev pub outline_pattern : CountedRegex → Pattern
-outline_pattern = fold-CountedRegex Pattern outline_node
+abbrev pub outline_pattern : CountedRegex → MarkedPattern
+outline_pattern = fold-CountedRegex MarkedPattern outline_node
 
 -- as a sequence it does not begin with a counted term, whose copies would be one
 abbrev pub plain_node : CountedRegex-F Bool → Bool

@@ -6,9 +6,12 @@ use Rattle.strkw_charset.specs.declared.properties.Property.{Property}
 use Rattle.strkw_charset.specs.declared.tree.CharSet.{CharSet}
 use Rattle.strkw_charset.specs.declared.tree.CharSet.TheVariants.{Property as PropertySet}
 use Rattle.strkw_regex_core.specs.Size.{steps, max_term_steps}
-use Rattle.strkw_regex_core.specs.Times.{Times, any_times, some_times, once_at_most, exact_times}
-use Rattle.strkw_regex_core.specs.Times.{least_times, range_times, quantified_pattern, copies}
-use Rattle.strkw_regex_core.specs.Tree.{Pattern, empty, class, cat, alt, lookbehind, lookahead}
+use Rattle.strkw_regex_core.specs.machine.Times.{Times, any_times, some_times, once_at_most}
+use Rattle.strkw_regex_core.specs.machine.Times.{times_of}
+use Rattle.strkw_regex_core.specs.machine.Times.{quantified_pattern}
+use Rattle.strkw_regex_core.specs.machine.Times.{copies}
+use Rattle.strkw_regex_core.specs.machine.MarkedPattern.{MarkedPattern, empty, class, cat, alt}
+use Rattle.strkw_regex_core.specs.machine.MarkedPattern.{lookbehind, lookahead}
 use Rattle.strkw_regex_grammar.specs.Codes.{is_lead, is_trail, is_scalar}
 use Rattle.strkw_regex_grammar.specs.Names.{are_distinct}
 use Rattle.strkw_regex_grammar.specs.machine.CodeMakers.{pair_value}
@@ -22,6 +25,7 @@ use Rattle.strkw_regex_grammar.specs.declared.lexemes.Bounds.{Bounds}
 use Rattle.strkw_regex_grammar.specs.declared.lexemes.Bounds.TheVariants as bounds
 use Rattle.strkw_regex_reader.specs.Limits.{max_count, max_nesting}
 use Rattle.strkw_regex_reader.specs.Patterns.{one_char, edge_pattern}
+use Rattle.strkw_regex_core.specs.machine.Expansion.{expand}
 use Rattle.strkw_regex_reader.specs.declared.refusals.PatternRefusal.{PatternRefusal}
 use Rattle.strkw_regex_reader.specs.declared.refusals.PatternRefusal.TheVariants as refusals
 -- what a parenthesis has opened
@@ -30,16 +34,16 @@ use Rattle.strkw_regex_reader.specs.declared.builder.Enclosing.TheVariants as en
 
 -- the alternatives before the one that is built, and the terms of that one
 pub record Level : Type 0 where
-  pub earlier : Option Pattern
-  pub current : Pattern
+  pub earlier : Option MarkedPattern
+  pub current : MarkedPattern
 
 -- the last term, where more may follow it: an atom; the leading surrogate of one; or an atom with
 -- its quantifier
 pub data Last : Type 0 where
   none : Last
-  atom : Pattern → Last
+  atom : MarkedPattern → Last
   lead : ℕ → Last
-  counted : Pattern → Last
+  counted : MarkedPattern → Last
 
 -- a group or a lookaround that is open, and the level around it
 pub record Open : Type 0 where
@@ -60,18 +64,18 @@ pub data Built : Type 0 where
   refuses : Option PatternRefusal → Built
 
 -- terms and the last of them
-abbrev pub all_terms : Pattern → Last → Pattern
+abbrev pub all_terms : MarkedPattern → Last → MarkedPattern
 all_terms p none = p
 all_terms p (atom q) = cat p q
 all_terms p (lead n) = p
 all_terms p (counted q) = cat p q
 
-abbrev pub join_alternatives : Option Pattern → Pattern → Pattern
+abbrev pub join_alternatives : Option MarkedPattern → MarkedPattern → MarkedPattern
 join_alternatives None p = p
 join_alternatives (Some q) p = alt q p
 
 -- all alternatives of a level
-abbrev pub whole_level : Level → Last → Pattern
+abbrev pub whole_level : Level → Last → MarkedPattern
 whole_level l x = join_alternatives l.earlier (all_terms l.current x)
 
 abbrev pub level_so_far : Level → Last → Level
@@ -87,11 +91,11 @@ with_level s l x = record { groups = s.groups; names = s.names; level = l; last 
 abbrev pub with_last : Builder → Last → Builder
 with_last s x = with_level s (level_so_far s.level s.last) x
 
-abbrev pub with_atom : Builder → Pattern → Builder
+abbrev pub with_atom : Builder → MarkedPattern → Builder
 with_atom s p = with_last s (atom p)
 
 -- a term that no quantifier may follow
-abbrev pub with_term : Builder → Pattern → Builder
+abbrev pub with_term : Builder → MarkedPattern → Builder
 with_term s p = with_level s
     (record { earlier = s.level.earlier; current = cat (all_terms s.level.current s.last) p }) none
 
@@ -130,12 +134,12 @@ begin s (ahead b) = open_within s (enclosings.Ahead b)
 abbrev pub at_level : List Open → List (List ℕ) → Level → Builder
 at_level os ns l = record { groups = os; names = ns; level = l; last = none }
 
-abbrev pub enclose : Builder → Enclosing → Pattern → Builder
+abbrev pub enclose : Builder → Enclosing → MarkedPattern → Builder
 enclose s enclosings.Group p = with_atom s p
 enclose s (enclosings.Behind b) p = with_term s (lookbehind b p)
 enclose s (enclosings.Ahead b) p = with_term s (lookahead b p)
 
-abbrev pub close_in : List Open → List (List ℕ) → Pattern → Built
+abbrev pub close_in : List Open → List (List ℕ) → MarkedPattern → Built
 close_in [] ns p = refuses None
 close_in (o ∷ os) ns p = takes (enclose (at_level os ns o.level) o.enclosing p)
 
@@ -182,10 +186,10 @@ is_great n = nat_lt max_count n
 abbrev pub repeat : Builder → Bounds → Built
 repeat s bounds.ZeroOrMore = quantify s any_times
 repeat s bounds.OneOrMore = quantify s some_times
-repeat s (bounds.Exactly n) = great_if (is_great n) (count_behind s s.last (exact_times n))
-repeat s (bounds.AtLeast n) = great_if (is_great n) (count_behind s s.last (least_times n))
+repeat s (bounds.Exactly n) = great_if (is_great n) (count_behind s s.last (times_of n (Some n)))
+repeat s (bounds.AtLeast n) = great_if (is_great n) (count_behind s s.last (times_of n None))
 repeat s (bounds.FromTo n m) =
-    great_if (is_great n || is_great m) (count_behind s s.last (range_times n m))
+    great_if (is_great n || is_great m) (count_behind s s.last (times_of n (Some m)))
 
 -- escapes by a number: a character; or a leading surrogate, behind which a trailing one has to come
 abbrev pub lead_if : Builder → ℕ → Bool → Built
@@ -198,11 +202,11 @@ surrogate s other_form n = refuses None
 
 abbrev pub number_if : Builder → Form → ℕ → Bool → Built
 number_if s f n false = surrogate s f n
-number_if s f n true = takes (with_atom s (one_char n))
+number_if s f n true = takes (with_atom s (expand (one_char n)))
 
 abbrev pub trail_if : Builder → ℕ → ℕ → Bool → Built
 trail_if s n m false = refuses None
-trail_if s n m true = takes (with_level s s.level (atom (one_char (pair_value n m))))
+trail_if s n m true = takes (with_level s s.level (atom (expand (one_char (pair_value n m)))))
 
 abbrev pub property_built : Builder → Bool → Option Property → Built
 property_built s n None = refuses None
@@ -214,8 +218,8 @@ class_built s n (Some rs) = takes (with_atom s (class false n rs))
 
 abbrev pub build_one : Builder → Lexeme → Built
 build_one s lexeme.bar = takes (with_bar s)
-build_one s (lexeme.edge e) = takes (with_term s (edge_pattern e))
-build_one s (lexeme.char c) = takes (with_atom s (one_char c))
+build_one s (lexeme.edge e) = takes (with_term s (expand (edge_pattern e)))
+build_one s (lexeme.char c) = takes (with_atom s (expand (one_char c)))
 build_one s (lexeme.number f n) = number_if s f n (is_scalar n)
 build_one s lexeme.dot = takes (with_atom s (class false true line_ends))
 build_one s (lexeme.set c) = takes (with_atom s (class false (is_negative c) (set_of c)))
@@ -265,7 +269,7 @@ abbrev pub when : {A : Type 0} → Bool → Option A → Option A
 when false o = None
 when true o = o
 
-abbrev pub at_end : Builder → Option Pattern
+abbrev pub at_end : Builder → Option MarkedPattern
 at_end s = when (may_end s) (Some (whole_level s.level s.last))
 
 abbrev pub nothing_built : Builder

@@ -3,7 +3,7 @@ use Rattle.std.specs.Prelude.{ℕ, nat_le, length, List, Option, Some, None, opt
 use Rattle.std.specs.Prelude.{true, if◌then◌else◌}
 use Rattle.strkw_regex_core.specs.LeadingLookahead.{parts, steps_of_parts}
 use Rattle.strkw_regex_core.specs.Size.{max_steps}
-use Rattle.strkw_regex_core.specs.Tree.{Pattern}
+use Rattle.strkw_regex_core.specs.machine.MarkedPattern.{MarkedPattern}
 use Rattle.strkw_regex_grammar.specs.NullEscape.{is_apart}
 use Rattle.strkw_regex_grammar.specs.machine.Lexing.{Mode, between, Lexed, refused, under_way}
 use Rattle.strkw_regex_grammar.specs.machine.Lexing.{lexed, lexed_both, Read, at, lex_next}
@@ -44,20 +44,20 @@ abbrev pub initial : Read Builder
 initial = at between nothing_built
 
 -- the pattern at the end of the text, where nothing is under way
-abbrev pub ends : Read Builder → Option Pattern
+abbrev pub ends : Read Builder → Option MarkedPattern
 ends r = option_and_then at_end (read_end step r.state r.mode)
 
-abbrev pub read_all : List ℕ → Option Pattern
+abbrev pub read_all : List ℕ → Option MarkedPattern
 read_all source = option_and_then at_end (read_from true step initial source)
 
-abbrev pub read_short : List ℕ → Option Pattern
+abbrev pub read_short : List ℕ → Option MarkedPattern
 read_short source = if nat_le (length source) max_length then read_all source else None
 
 -- what is not too large
-abbrev pub keep_small : Option Pattern → Option Pattern
+abbrev pub keep_small : Option MarkedPattern → Option MarkedPattern
 keep_small None = None
 keep_small (Some p) = when (nat_le (steps_of_parts (parts p)) max_steps) (Some p)
 
 -- the pattern of a text that is taken
-abbrev pub read_pattern : List ℕ → Option Pattern
+abbrev pub read_pattern : List ℕ → Option MarkedPattern
 read_pattern source = if is_apart source then keep_small (read_short source) else None

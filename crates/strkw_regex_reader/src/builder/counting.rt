@@ -71,13 +71,13 @@ impl Builder {
             Bounds::ZeroOrMore => self.quantify(alloc, Quantifier::ZeroOrMore),
             Bounds::OneOrMore => self.quantify(alloc, Quantifier::OneOrMore),
             Bounds::Exactly(count) if !is_great(count) => {
-                self.count(alloc, Quantifier::Exactly(count))
+                self.count(alloc, Quantifier::of(count, Some(count)))
             }
             Bounds::AtLeast(count) if !is_great(count) => {
-                self.count(alloc, Quantifier::AtLeast(count))
+                self.count(alloc, Quantifier::of(count, None))
             }
             Bounds::FromTo(first, last) if !is_great(first) && !is_great(last) => {
-                self.count(alloc, Quantifier::FromTo(first, last))
+                self.count(alloc, Quantifier::of(first, Some(last)))
             }
             _ => Ok(Taken::Refuses(Some(PatternRefusal::CountTooGreat))),
         }

@@ -1,12 +1,13 @@
 //! How terms, alternatives and groups are put together.
 
 ghost use Rattle.std.specs.Prelude.{◌≡◌, ◌&&◌, true, IfOk};
-ghost use Rattle.strkw_regex_core.specs.Tree.{empty};
+ghost use Rattle.strkw_regex_core.specs.machine.MarkedPattern.{empty};
 ghost use Rattle.strkw_regex_core.specs.machine.Shape.{is_plain, outline_pattern};
 ghost use Rattle.strkw_regex_grammar.specs.Codes.{is_scalar, is_trail};
 ghost use Rattle.strkw_regex_grammar.specs.machine.CodeMakers.{pair_value};
 ghost use Rattle.strkw_regex_grammar.specs.machine.LexerParts.{opening_of};
 ghost use Rattle.strkw_regex_reader.specs.Patterns.{one_char as spec_one_char};
+ghost use Rattle.strkw_regex_core.specs.machine.Expansion.{expand};
 ghost use Rattle.strkw_regex_reader.specs.machine.BuilderParts.{builder_of, built_of, last_of, level_of};
 ghost use Rattle.strkw_regex_reader.specs.machine.Building.{atom, none, begin, close, enclose, level_so_far, number_if, open_within, trail_if, whole_level};
 ghost use Rattle.strkw_regex_reader.specs.machine.Building.{with_atom, with_bar, with_term};
@@ -71,7 +72,7 @@ impl Builder {
 
     pub(super) fn add_char(&mut self, alloc: Global, c: char) -> Result<(), AllocError>
         ensures { IfOk result (λ _. builder_of self.new
-            ≡ with_atom (builder_of self.old) (spec_one_char c)) }
+            ≡ with_atom (builder_of self.old) (expand (spec_one_char c))) }
     {
         self.add_atom(alloc, one_char(alloc, c)?)
     }

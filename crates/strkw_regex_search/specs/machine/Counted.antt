@@ -2,10 +2,10 @@
 -- forwards, as much as it takes.
 use Rattle.std.specs.Prelude.{◌≡◌, ℕ, suc, ◌+◌, ◌*◌, ◌≤◌, Bool, true, false, ◌||◌, List, [], ◌∷◌}
 use Rattle.std.specs.Prelude.{◌++◌, length, Option, Some, None, if◌then◌else◌}
-use Rattle.strkw_regex_core.specs.Tree.{Pattern}
+use Rattle.strkw_regex_core.specs.machine.MarkedPattern.{MarkedPattern}
 use Rattle.strkw_regex_core.specs.LeadingLookahead.{Part}
 use Rattle.strkw_regex_core.specs.OneCharLookahead.{are_told}
-use Rattle.strkw_regex_core.specs.Mirror.{along, target, sought_in}
+use Rattle.strkw_regex_core.specs.machine.Mirror.{along, target, sought_in}
 use Rattle.strkw_regex_core.specs.machine.Positions.{marks_of, mark_classes}
 use Rattle.strkw_regex_search.specs.machine.Search.{search_from, found_in}
 use Rattle.strkw_regex_search.specs.machine.Seeking.{Seeking, row_answer}
@@ -67,14 +67,14 @@ counted_search is ms last (c ∷ cs) =
 
 -- The search by the program of a pattern comes to what the definition does, in at most so many
 -- steps for each character and the end of the text.
-pub record IsSearchedWithin (most : ℕ) (p : Pattern) (text : List ℕ) : Type 0 where
+pub record IsSearchedWithin (most : ℕ) (p : MarkedPattern) (text : List ℕ) : Type 0 where
   pub answer : (counted_search (program p) (marks_of p) None text).result ≡ search_from p None text
   pub steps : (counted_search (program p) (marks_of p) None text).steps ≤ most * (length text + 1)
 
 -- The search whose marks are told by rows, with its steps counted: at each place, whether the
 -- pattern ends there.
 module _ (rows : List (List Bool)) (ts : List (Option ℕ)) where
-  abbrev pub ending : Pattern → Option ℕ → List ℕ → Counted (List Bool)
+  abbrev pub ending : MarkedPattern → Option ℕ → List ℕ → Counted (List Bool)
   ending p last [] =
       let q = told_by (row_answer rows 0) ts p in
       let one = walking last None (program q) (marks_of q) in
@@ -105,14 +105,14 @@ is_any (b ∷ bs) = b || is_any bs
 
 -- Some searches, each told by those before it, come to what the definition does, in at most so many
 -- steps for each character and the end of the text.
-pub record IsSoughtWithin (most : ℕ) (p : Pattern) (text : List ℕ) : Type 0 where
+pub record IsSoughtWithin (most : ℕ) (p : MarkedPattern) (text : List ℕ) : Type 0 where
   pub searches : List Seeking
   pub last : Seeking
   pub answer : is_any (seeking_by searches last text).result ≡ found_in p text
   pub steps : (seeking_by searches last text).steps ≤ most * (length text + 1)
 
 -- by whether the next character tells what lookaheads look for
-abbrev pub IsWithin : Bool → ℕ → Pattern → List ℕ → Type 0
+abbrev pub IsWithin : Bool → ℕ → MarkedPattern → List ℕ → Type 0
 IsWithin true = IsSearchedWithin
 IsWithin false = IsSoughtWithin
 

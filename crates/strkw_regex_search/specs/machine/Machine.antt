@@ -2,7 +2,7 @@
 use Rattle.std.specs.Prelude.{◌≡◌, ℕ, ◌<◌, ◌≤◌, ◌+◌, Bool, true, false, List, ◌++◌, length, drop}
 use Rattle.std.specs.Prelude.{get_or, slice_get, Vec, Option, Some, None}
 use Rattle.std.specs.declared.alloc.Global.{Global}
-use Rattle.strkw_regex_core.specs.Tree.{Pattern}
+use Rattle.strkw_regex_core.specs.machine.MarkedPattern.{MarkedPattern}
 use Rattle.strkw_regex_core.specs.machine.Positions.{reads}
 use Rattle.strkw_regex_core.specs.Program.{Instruction}
 use Rattle.strkw_regex_search.specs.machine.Walk.{Asked, Following}
@@ -15,7 +15,7 @@ use Rattle.strkw_regex_search.specs.declared.stack.Stack.{Stack}
 use Rattle.strkw_regex_search.specs.declared.walk.Ahead.{Ahead}
 use Rattle.strkw_regex_search.specs.declared.walk.Walk.{Walk}
 
-abbrev pub pattern_of : Program → Pattern
+abbrev pub pattern_of : Program → MarkedPattern
 pattern_of p = outline_pattern p.outline
 
 abbrev pub instructions_of : Code → List Instruction

@@ -1,19 +1,21 @@
 -- Patterns whose lookaheads are put aside: a mark stands for each, which is told at each place.
 use Rattle.std.specs.Prelude.{ℕ, ◌+◌, max, drop, get_or, Bool, false, List, [], ◌∷◌, ◌++◌, Option}
 use Rattle.std.specs.Prelude.{Some, None}
-use Rattle.strkw_regex_core.specs.Tree.{Pattern, empty, class, look, cat, alt, star, plus}
-use Rattle.strkw_regex_core.specs.Tree.{lookbehind, lookahead}
-use Rattle.strkw_regex_core.specs.Times.{Times, any_times, some_times, once_at_most, exact_times}
-use Rattle.strkw_regex_core.specs.Times.{least_times, range_times}
+use Rattle.strkw_regex_core.specs.machine.MarkedPattern.{MarkedPattern, empty, class, look, cat}
+use Rattle.strkw_regex_core.specs.machine.MarkedPattern.{alt, star, plus}
+use Rattle.strkw_regex_core.specs.machine.MarkedPattern.{lookbehind, lookahead}
+use Rattle.strkw_regex_core.specs.machine.Times.{Times, any_times, some_times, once_at_most}
+use Rattle.strkw_regex_core.specs.machine.Times.{exact_times}
+use Rattle.strkw_regex_core.specs.machine.Times.{least_times, range_times}
 use Rattle.strkw_regex_core.specs.machine.Positions.{classes}
 
 -- what stands for a lookahead: a class without characters, whose mark is told
-abbrev pub slot : Bool → Bool → Pattern
+abbrev pub slot : Bool → Bool → MarkedPattern
 slot n m = lookbehind n (class m false [])
 
 -- the pattern with such a mark for each lookahead
-module _ (see : Pattern → Bool) where
-  abbrev pub told : Pattern → Pattern
+module _ (see : MarkedPattern → Bool) where
+  abbrev pub told : MarkedPattern → MarkedPattern
   told empty = empty
   told (class m n rs) = class m n rs
   told (look l) = look l
@@ -25,11 +27,11 @@ module _ (see : Pattern → Bool) where
   told (lookahead n p) = slot n (see p)
 
 -- the same with none of these marks set
-abbrev pub aside : Pattern → Pattern
+abbrev pub aside : MarkedPattern → MarkedPattern
 aside = told (λ p. false)
 
 -- for each class then, in order, what the lookahead looks for that it stands for, if for one
-abbrev pub spots : Pattern → List (Option Pattern)
+abbrev pub spots : MarkedPattern → List (Option MarkedPattern)
 spots empty = []
 spots (class m n rs) = None ∷ []
 spots (look l) = []
@@ -56,7 +58,7 @@ module _ (now : ℕ → Bool) where
   told_mark (Some k) m = now k
 
   -- the numbers are those of the classes, in order
-  abbrev pub told_by : List (Option ℕ) → Pattern → Pattern
+  abbrev pub told_by : List (Option ℕ) → MarkedPattern → MarkedPattern
   told_by ts empty = empty
   told_by ts (class m n rs) = class (told_mark (get_or ts 0 None) m) n rs
   told_by ts (look l) = look l

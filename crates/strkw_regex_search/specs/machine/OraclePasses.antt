@@ -1,8 +1,8 @@
 -- What the lookaheads of a pattern look for, put aside one after the other.
 use Rattle.std.specs.Prelude.{◌≡◌, ℕ, ◌≤◌, Bool, true, false, not, List, [], ◌∷◌, ◌++◌, slice_get}
 use Rattle.std.specs.Prelude.{Option, Some, None}
-use Rattle.strkw_regex_core.specs.Tree.{Pattern, cat, lookbehind, lookahead}
-use Rattle.strkw_regex_core.specs.Mirror.{mirror, mirror_if}
+use Rattle.strkw_regex_core.specs.machine.MarkedPattern.{MarkedPattern, cat, lookbehind, lookahead}
+use Rattle.strkw_regex_core.specs.machine.Mirror.{mirror, mirror_if}
 use Rattle.strkw_regex_core.specs.Size.{steps, spread, max_steps}
 use Rattle.strkw_regex_core.specs.machine.Positions.{is_unmarked}
 use Rattle.strkw_regex_core.specs.machine.EquivalentPatterns.{EquivalentPatterns}
@@ -12,10 +12,10 @@ use Rattle.strkw_regex_search.specs.machine.OracleMarks.{aside, spots}
 -- a pattern that is looked for along a text, or from its end on
 pub record OracleQuery : Type 0 where
   pub backward : Bool
-  pub pattern : Pattern
+  pub pattern : MarkedPattern
 
 -- that of this number looks from the other end on for the mirror of what the lookahead does
-abbrev pub IsToldAs : List OracleQuery → Bool → Option ℕ → Option Pattern → Type 0
+abbrev pub IsToldAs : List OracleQuery → Bool → Option ℕ → Option MarkedPattern → Type 0
 IsToldAs fs b None None = Unit {0}
 IsToldAs fs b None (Some p) = ⊥
 IsToldAs fs b (Some k) None = ⊥
@@ -23,7 +23,7 @@ IsToldAs fs b (Some k) (Some p) = (f : OracleQuery) × (slice_get fs k ≡ Some 
     × (f.backward ≡ not b) × EquivalentPatterns f.pattern (mirror p)
 
 -- and so of each
-abbrev pub AreToldAs : List OracleQuery → Bool → List (Option ℕ) → List (Option Pattern) → Type 0
+abbrev pub AreToldAs : List OracleQuery → Bool → List (Option ℕ) → List (Option MarkedPattern) → Type 0
 AreToldAs fs b [] [] = Unit {0}
 AreToldAs fs b [] (s ∷ ss) = ⊥
 AreToldAs fs b (t ∷ ts) [] = ⊥
@@ -44,11 +44,11 @@ AreAsides fs (x ∷ xs) [] = ⊥
 AreAsides fs (x ∷ xs) (g ∷ gs) = IsAside fs x g × AreAsides (fs ++ (g ∷ [])) xs gs
 
 -- with a mark beside what its lookarounds look for, it takes no more steps than may be
-abbrev pub IsSmall : Pattern → Type 0
+abbrev pub IsSmall : MarkedPattern → Type 0
 IsSmall p = steps (spread p) ≤ max_steps
 
 -- and bears no mark, so that its lookaheads may be put aside
-pub record MayBePut (p : Pattern) : Type 0 where
+pub record MayBePut (p : MarkedPattern) : Type 0 where
   pub bare : is_unmarked p ≡ true
   pub small : IsSmall p
 
@@ -58,12 +58,12 @@ AreSmall (f ∷ fs) = IsSmall f.pattern × AreSmall fs
 
 -- What putting the lookaheads of a pattern aside adds to quests and asides, and leaves of it. The
 -- pattern that is `made` is like the one that is to be.
-pub record Puts (b : Bool) (sought o : Pattern) (fs : List OracleQuery) (xs : List Seeking)
+pub record Puts (b : Bool) (sought o : MarkedPattern) (fs : List OracleQuery) (xs : List Seeking)
     (old new : List (Option ℕ)) : Type 0 where
   pub added : List OracleQuery
   pub small : AreSmall added
   pub asides : AreAsides [] xs (fs ++ added)
-  pub made : Pattern
+  pub made : MarkedPattern
   pub alike : EquivalentPatterns made sought
   pub slotted : o ≡ aside made
   pub more : List (Option ℕ)
@@ -71,38 +71,38 @@ pub record Puts (b : Bool) (sought o : Pattern) (fs : List OracleQuery) (xs : Li
   pub told : AreToldAs (fs ++ added) b more (spots made)
 
 -- of a pattern, or of its mirror
-abbrev pub PutsAside : Bool → Pattern → Pattern → List OracleQuery → List Seeking
+abbrev pub PutsAside : Bool → MarkedPattern → MarkedPattern → List OracleQuery → List Seeking
     → List (Option ℕ) → List (Option ℕ) → Type 0
 PutsAside b p = Puts b (mirror_if b p)
 
 -- of two, one behind the other, or of their mirrors
-abbrev pub PutsBoth : Bool → Pattern → Pattern → Pattern → List OracleQuery → List Seeking
+abbrev pub PutsBoth : Bool → MarkedPattern → MarkedPattern → MarkedPattern → List OracleQuery → List Seeking
     → List (Option ℕ) → List (Option ℕ) → Type 0
 PutsBoth b p q = Puts b (cat (mirror_if b p) (mirror_if b q))
 
 -- of a lookahead or a lookbehind for a pattern, or for its mirror
-abbrev pub PutsLook : Bool → Bool → Bool → Pattern → Pattern → List OracleQuery → List Seeking
+abbrev pub PutsLook : Bool → Bool → Bool → MarkedPattern → MarkedPattern → List OracleQuery → List Seeking
     → List (Option ℕ) → List (Option ℕ) → Type 0
 PutsLook true n b p = Puts b (lookahead n (mirror_if b p))
 PutsLook false n b p = Puts b (lookbehind n (mirror_if b p))
 
 -- a pattern, or its mirror, is set aside
-pub record SetsAside (b : Bool) (p : Pattern) (x : Seeking) (fs : List OracleQuery)
+pub record SetsAside (b : Bool) (p : MarkedPattern) (x : Seeking) (fs : List OracleQuery)
     (xs : List Seeking) : Type 0 where
   pub added : List OracleQuery
   pub small : AreSmall added
   pub asides : AreAsides [] xs (fs ++ added)
-  pub made : Pattern
+  pub made : MarkedPattern
   pub alike : EquivalentPatterns made (mirror_if b p)
   pub made_small : IsSmall made
   pub is : IsAside (fs ++ added) x record { backward = b; pattern = made }
 
 -- and has a number
-pub record TellsAside (b : Bool) (p : Pattern) (number : ℕ) (fs : List OracleQuery)
+pub record TellsAside (b : Bool) (p : MarkedPattern) (number : ℕ) (fs : List OracleQuery)
     (xs : List Seeking) : Type 0 where
   pub added : List OracleQuery
   pub small : AreSmall added
   pub asides : AreAsides [] xs (fs ++ added)
-  pub made : Pattern
+  pub made : MarkedPattern
   pub alike : EquivalentPatterns made (mirror_if b p)
   pub is : slice_get (fs ++ added) number ≡ Some record { backward = b; pattern = made }

@@ -1,6 +1,6 @@
 -- What the seekers of the code stand for.
 use Rattle.std.specs.Prelude.{◌≡◌, ◌≤◌, true, List, [], ◌∷◌}
-use Rattle.strkw_regex_core.specs.Tree.{Pattern}
+use Rattle.strkw_regex_core.specs.machine.MarkedPattern.{MarkedPattern}
 use Rattle.strkw_regex_core.specs.Size.{steps, max_steps}
 use Rattle.strkw_regex_search.specs.machine.Machine.{pattern_of}
 use Rattle.strkw_regex_core.specs.machine.Positions.{is_clean}
@@ -33,7 +33,7 @@ quests [] = []
 quests (x ∷ xs) = quest x ∷ quests xs
 
 -- it takes no more steps than may be, and bears no mark
-abbrev pub IsFit : Pattern → Type 0
+abbrev pub IsFit : MarkedPattern → Type 0
 IsFit p = (steps p ≤ max_steps) × (is_clean p ≡ true)
 
 abbrev pub AreFit : List OraclePass → Type 0

@@ -2,11 +2,11 @@
 use Rattle.std.specs.Prelude.{◌≡◌, ℕ, ◌+◌, ◌≤◌, Bool, true, not, ◌&&◌, ◌||◌, List, [], ◌∷◌, Vec}
 use Rattle.std.specs.Prelude.{Option, Some, None}
 use Rattle.std.specs.declared.alloc.Global.{Global}
-use Rattle.strkw_regex_core.specs.Tree.{Pattern}
+use Rattle.strkw_regex_core.specs.machine.MarkedPattern.{MarkedPattern}
 use Rattle.strkw_charset.specs.Membership.{differ}
 use Rattle.strkw_regex_core.specs.OneCharLookahead.{are_told}
 use Rattle.strkw_regex_core.specs.Size.{steps, search_steps, max_steps}
-use Rattle.strkw_regex_core.specs.Mirror.{along, is_backward, target}
+use Rattle.strkw_regex_core.specs.machine.Mirror.{along, is_backward, target}
 use Rattle.strkw_regex_core.specs.LeadingLookahead.{Part, parts, steps_of_parts}
 use Rattle.strkw_regex_core.specs.machine.Positions.{is_unmarked}
 use Rattle.strkw_regex_search.specs.machine.Search.{found_in}
@@ -18,7 +18,7 @@ use Rattle.strkw_regex_core.specs.machine.EquivalentPatterns.{EquivalentPatterns
 pub record Pass : Type 0 where
   pub negated : Bool
   pub backward : Bool
-  pub pattern : Pattern
+  pub pattern : MarkedPattern
 
 abbrev pub are_passes_found : List Pass → List ℕ → Bool
 are_passes_found [] text = true
@@ -61,11 +61,11 @@ passes_of [] = []
 passes_of (p ∷ ps) = pass_of p ∷ passes_of ps
 
 -- they look for the parts of a pattern, which is taken
-pub record AreTaken (ps : List CodePass) (p : Pattern) : Type 0 where
+pub record AreTaken (ps : List CodePass) (p : MarkedPattern) : Type 0 where
   pub passes : ArePasses (passes_of ps) (parts p)
   pub small : steps_of_parts (parts p) ≤ max_steps
 
-abbrev pub ComesTo : Option (Vec CodePass Global) → Option Pattern → Type 0
+abbrev pub ComesTo : Option (Vec CodePass Global) → Option MarkedPattern → Type 0
 ComesTo None None = Unit {0}
 ComesTo None (Some p) = ⊥
 ComesTo (Some ps) None = ⊥

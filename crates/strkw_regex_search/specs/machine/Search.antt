@@ -1,28 +1,28 @@
 -- The search as a function.
 use Rattle.std.specs.Prelude.{ℕ, Bool, true, ◌||◌, ◌&&◌, List, [], ◌∷◌, length, Option, Some, None}
 use Rattle.std.specs.Prelude.{if◌then◌else◌}
-use Rattle.strkw_regex_core.specs.Tree.{Pattern}
+use Rattle.strkw_regex_core.specs.machine.MarkedPattern.{MarkedPattern}
 use Rattle.strkw_charset.specs.Membership.{differ}
 use Rattle.strkw_regex_core.specs.LeadingLookahead.{Part}
-use Rattle.strkw_regex_core.specs.Mirror.{target, sought_in}
+use Rattle.strkw_regex_core.specs.machine.Mirror.{target, sought_in}
 use Rattle.strkw_regex_core.specs.OneCharLookahead.{are_told}
 use Rattle.strkw_regex_core.specs.machine.Positions.{leaves, step, is_unmarked}
 use Rattle.strkw_regex_core.specs.machine.Sight.{depth, ends_by, begins_at}
 
 -- whether the pattern is found in the rest of a text, behind the character `last`
-abbrev pub search_from : Pattern → Option ℕ → List ℕ → Bool
+abbrev pub search_from : MarkedPattern → Option ℕ → List ℕ → Bool
 search_from p last [] = leaves last None p true
 search_from p last (c ∷ cs) = leaves last (Some c) p true
     || search_from (step last (Some c) p true) (Some c) cs
 
 -- whether it is found in the text, or where lookaheads look farther than the next character, ends
 -- at some place
-abbrev pub found_in : Pattern → List ℕ → Bool
+abbrev pub found_in : MarkedPattern → List ℕ → Bool
 found_in p text = if are_told p then search_from p None text
     else ends_by (begins_at (depth p) text) text p (length text)
 
 -- the same, searched along the text or from its end on
-abbrev pub search : Pattern → List ℕ → Bool
+abbrev pub search : MarkedPattern → List ℕ → Bool
 search p text = found_in (target p) (sought_in p text)
 
 -- whether each part is found in the text, or is not, as it is to be

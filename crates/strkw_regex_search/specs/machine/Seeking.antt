@@ -2,8 +2,8 @@
 -- which were put from its other end on.
 use Rattle.std.specs.Prelude.{ℕ, suc, get_or, Bool, true, false, ◌||◌, List, [], ◌∷◌, ◌++◌, length}
 use Rattle.std.specs.Prelude.{Option, Some, None}
-use Rattle.strkw_regex_core.specs.Tree.{Pattern}
-use Rattle.strkw_regex_core.specs.Mirror.{along}
+use Rattle.strkw_regex_core.specs.machine.MarkedPattern.{MarkedPattern}
+use Rattle.strkw_regex_core.specs.machine.Mirror.{along}
 use Rattle.strkw_regex_search.specs.machine.OracleMarks.{told_by}
 use Rattle.strkw_regex_core.specs.machine.Positions.{leaves, step}
 
@@ -11,7 +11,7 @@ use Rattle.strkw_regex_core.specs.machine.Positions.{leaves, step}
 -- told
 pub record Seeking : Type 0 where
   pub backward : Bool
-  pub pattern : Pattern
+  pub pattern : MarkedPattern
   pub told : List (Option ℕ)
 
 -- what the row of this number says, where so many characters are still to come
@@ -21,14 +21,14 @@ row_answer rows ahead k = get_or (get_or rows k []) ahead false
 -- Behind the character `last`, and before the rest of a text.
 module _ (rows : List (List Bool)) (ts : List (Option ℕ)) where
   -- at each place, whether the pattern ends there
-  abbrev pub ends_from : Pattern → Option ℕ → List ℕ → List Bool
+  abbrev pub ends_from : MarkedPattern → Option ℕ → List ℕ → List Bool
   ends_from p last [] = leaves last None (told_by (row_answer rows 0) ts p) true ∷ []
   ends_from p last (c ∷ cs) =
       let q = told_by (row_answer rows (suc (length cs))) ts p in
       leaves last (Some c) q true ∷ ends_from (step last (Some c) q true) (Some c) cs
 
   -- whether it does at one
-  abbrev pub ends_within : Pattern → Option ℕ → List ℕ → Bool
+  abbrev pub ends_within : MarkedPattern → Option ℕ → List ℕ → Bool
   ends_within p last [] = leaves last None (told_by (row_answer rows 0) ts p) true
   ends_within p last (c ∷ cs) =
       let q = told_by (row_answer rows (suc (length cs))) ts p in

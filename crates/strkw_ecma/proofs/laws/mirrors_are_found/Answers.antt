@@ -1,5 +1,5 @@
-use Rattle.strkw_regex_core.proofs.Mirrors.{found_mirrored}
+use Rattle.strkw_regex_core.proofs.PatternMirrors.{found_mirrored}
 use Rattle.strkw_ecma.proofs.laws.mirrors_are_found.Goals as goal
 
 pub returns : goal.returns
-returns c p text = found_mirrored text p
+returns c p text = found_mirrored p text

@@ -1,8 +1,8 @@
 use Rattle.std.proofs.Common.{◌≡◌, ◌↔◌, ◌∙◌, ap, sym, subst, arith, IsTrue, Bool, false, Some, None, length, replicate}
 use Rattle.std.specs.Str.{chars}
 use Rattle.std.proofs.lemmas.List.{length-replicate}
-use Rattle.strkw_regex_core.specs.Meaning.{Found}
-use Rattle.strkw_regex_core.specs.Mirror.{along}
+use Rattle.strkw_regex_core.specs.machine.MarkedMeaning.{Found}
+use Rattle.strkw_regex_core.specs.machine.Mirror.{along}
 use Rattle.strkw_regex_search.specs.machine.Along.{left_of}
 use Rattle.strkw_regex_search.specs.machine.Machine.{pattern_of}
 use Rattle.strkw_regex_core.specs.machine.Positions.{mark_classes}

@@ -1,7 +1,7 @@
 use Rattle.std.proofs.Common.{arith, ◌≡◌, ◌∙◌, true, false, refl, sym, ap, subst}
 use Rattle.std.proofs.lemmas.Result.{IfOk-weaker}
-use Rattle.strkw_regex_core.specs.Tree.{alt}
-use Rattle.strkw_regex_core.specs.Times.{quantified_pattern}
+use Rattle.strkw_regex_core.specs.machine.MarkedPattern.{alt}
+use Rattle.strkw_regex_core.specs.machine.Times.{quantified_pattern}
 use Rattle.strkw_regex_core.specs.machine.Shape.{is_never, outline_pattern, quantifier_of}
 use Rattle.strkw_regex_search.specs.machine.OraclePasses.{IsSmall}
 use Rattle.strkw_regex_core.specs.machine.Positions.{is_unmarked}

@@ -1,6 +1,6 @@
 use Rattle.std.proofs.Common.{◌∙◌, ap, sym}
 use Rattle.std.specs.Str.{chars}
-use Rattle.strkw_regex_core.specs.Mirror.{along}
+use Rattle.strkw_regex_core.specs.machine.Mirror.{along}
 use Rattle.strkw_ecma.specs.machine.Dfa.{walk}
 use Rattle.strkw_ecma.proofs.dfa.Dfa.is_found_along.Goals as goal
 

@@ -1,6 +1,6 @@
 use Rattle.std.proofs.Common.{Bool, List, None, sym, ap, ◌∙◌}
 use Rattle.std.specs.Str.{chars}
-use Rattle.strkw_regex_core.specs.Mirror.{along}
+use Rattle.strkw_regex_core.specs.machine.Mirror.{along}
 use Rattle.strkw_regex_search.specs.declared.code.Class.{Class}
 use Rattle.strkw_ecma.specs.machine.Chains.{are_chained}
 use Rattle.strkw_regex_search.specs.machine.Machine.{pattern_of}

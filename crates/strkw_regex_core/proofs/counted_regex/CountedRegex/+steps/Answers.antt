@@ -1,6 +1,6 @@
 use Rattle.std.proofs.Common.{◌≡◌, ◌∙◌, ◌&&◌, Bool, List, false, sym, ap, if◌then◌else◌}
-use Rattle.strkw_regex_core.specs.Tree.{Pattern, cat, alt, lookbehind, lookahead}
-use Rattle.strkw_regex_core.specs.Times.{quantified_pattern}
+use Rattle.strkw_regex_core.specs.machine.MarkedPattern.{MarkedPattern, cat, alt, lookbehind, lookahead}
+use Rattle.strkw_regex_core.specs.machine.Times.{quantified_pattern}
 use Rattle.strkw_regex_core.specs.Program.{Instruction, glance, alternatives, is_class, is_empty}
 use Rattle.strkw_regex_core.specs.machine.Shape.{outline_pattern, quantifier_of}
 use Rattle.strkw_regex_core.specs.Size.{steps, steps_of, spread}
@@ -53,7 +53,7 @@ steps-returns-in-Behind t c =
     cc (c.in-Behind.is, c.deref-in-Behind.ensures, outlined-Behind c.in-Behind.field-0 c.in-Behind.body) in
     c.sum_of-in-Behind.ensures
     ∙ sum_capped (if b then 1 else 0) (steps (spread_if b p)) 2 _ _ (c.mark_steps.ensures ∙ mark_capped b) c.steps-in-Behind.ensures
-    ∙ ap cap_steps (sym (behind_if b c.in-Behind.field-0 p)) ∙ ap (λ (y : Pattern). cap_steps (steps (spread_if b y))) (sym shape)
+    ∙ ap cap_steps (sym (behind_if b c.in-Behind.field-0 p)) ∙ ap (λ (y : MarkedPattern). cap_steps (steps (spread_if b y))) (sym shape)
 
 pub steps-returns-then-is_spread : goal.steps-returns-then-is_spread
 steps-returns-then-is_spread t c =
@@ -62,7 +62,7 @@ steps-returns-then-is_spread t c =
     cc (c.in-Ahead.is, c.deref-then-is_spread.ensures, outlined-Ahead c.in-Ahead.field-0 c.in-Ahead.body) in
     c.sum_of-then-is_spread.ensures
     ∙ sum_capped 1 (steps (spread p)) 2 _ _ c.mark_steps-then-is_spread.ensures c.steps-then-is_spread.ensures
-    ∙ ap cap_steps (sym (ahead_if c.in-Ahead.field-0 p)) ∙ ap (λ (y : Pattern). cap_steps (steps (spread y))) (sym shape)
+    ∙ ap cap_steps (sym (ahead_if c.in-Ahead.field-0 p)) ∙ ap (λ (y : MarkedPattern). cap_steps (steps (spread y))) (sym shape)
     ∙ ap (λ (x : Bool). cap_steps (steps (spread_if x (outline_pattern c.args.self.now)))) (sym c.if-is_spread.true)
 
 pub steps-returns-else-is_spread : goal.steps-returns-else-is_spread
@@ -71,7 +71,7 @@ steps-returns-else-is_spread t c =
     let shape : outline_pattern c.args.self.now ≡ lookahead c.in-Ahead.field-0 p =
     cc (c.in-Ahead.is, c.deref-else-is_spread.ensures, outlined-Ahead c.in-Ahead.field-0 c.in-Ahead.body) in
     c.sum_of-else-is_spread.ensures ∙ more_capped (steps_of (glance p)) 2 _ c.glance_steps.ensures
-    ∙ ap cap_steps (sym (ahead_steps c.in-Ahead.field-0 p)) ∙ ap (λ (y : Pattern). cap_steps (steps y)) (sym shape)
+    ∙ ap cap_steps (sym (ahead_steps c.in-Ahead.field-0 p)) ∙ ap (λ (y : MarkedPattern). cap_steps (steps y)) (sym shape)
     ∙ ap (λ (x : Bool). cap_steps (steps (spread_if x (outline_pattern c.args.self.now)))) (sym c.if-is_spread.false)
 
 pub steps_beside-returns-in-Or : goal.steps_beside-returns-in-Or

@@ -1,5 +1,5 @@
 use Rattle.std.proofs.Common.{◌∙◌, sym, ap}
-use Rattle.strkw_regex_core.specs.Tree.{empty}
+use Rattle.strkw_regex_core.specs.machine.MarkedPattern.{empty}
 use Rattle.strkw_regex_core.specs.Program.{is_class}
 use Rattle.strkw_regex_core.specs.machine.Sizes.{cap_steps, spread_if}
 use Rattle.strkw_regex_core.specs.Size.{steps}

@@ -1,6 +1,6 @@
 use Rattle.std.proofs.Common.{◌≡◌, ◌∙◌, ◌-◌, sym}
-use Rattle.strkw_regex_core.specs.Tree.{empty, alt, star}
-use Rattle.strkw_regex_core.specs.Times.{repetition}
+use Rattle.strkw_regex_core.specs.machine.MarkedPattern.{empty, alt, star}
+use Rattle.strkw_regex_core.specs.machine.Times.{repetition}
 use Rattle.strkw_regex_core.specs.machine.Sizes.{cap_steps, spread_if}
 use Rattle.strkw_regex_core.specs.Size.{steps}
 use Rattle.strkw_regex_core.specs.machine.Shape.{outline_pattern}

@@ -1,6 +1,7 @@
 use Rattle.std.proofs.Common.{◌∙◌, ap, sym, refl, true≢false}
 use Rattle.strkw_regex_core.specs.LeadingLookahead.{is_apart_behind}
-use Rattle.strkw_regex_core.specs.Tree.{cat, look, start}
+use Rattle.strkw_regex_core.specs.machine.MarkedPattern.{cat, look}
+use Rattle.strkw_regex_core.specs.Tree.{start}
 use Rattle.strkw_regex_core.specs.machine.Shape.{outline_pattern}
 use Rattle.strkw_regex_core.specs.declared.leading_lookahead.LeadingLookahead.{LeadingLookahead}
 use Rattle.strkw_regex_core.proofs.Fronts.{cuts_apart, far, not_far}

@@ -1,6 +1,6 @@
 use Rattle.std.proofs.Common.{◌≡◌, None, length}
 use Rattle.std.specs.Str.{chars}
-use Rattle.strkw_regex_core.specs.Mirror.{along}
+use Rattle.strkw_regex_core.specs.machine.Mirror.{along}
 use Rattle.strkw_regex_search.specs.machine.Along.{left_of}
 use Rattle.strkw_regex_search.specs.machine.Bits.{rows_of}
 use Rattle.strkw_regex_search.specs.machine.Machine.{pattern_of}

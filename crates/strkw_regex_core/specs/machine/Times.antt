@@ -1,6 +1,6 @@
 -- How often a quantifier repeats, and the pattern that a repetition stands for.
-use Rattle.std.specs.Prelude.{ℕ, zero, suc, ◌+◌, ◌-◌}
-use Rattle.strkw_regex_core.specs.Tree.{Pattern, empty, cat, alt, star, plus}
+use Rattle.std.specs.Prelude.{ℕ, zero, suc, ◌+◌, ◌-◌, ◌==◌, ◌&&◌, Option, Some, None, if◌then◌else◌}
+use Rattle.strkw_regex_core.specs.machine.MarkedPattern.{MarkedPattern, empty, cat, alt, star, plus}
 
 -- how often a quantifier repeats
 pub data Times : Type 0 where
@@ -9,12 +9,20 @@ pub data Times : Type 0 where
   least_times : ℕ → Times
   range_times : ℕ → ℕ → Times
 
-abbrev pub repetition : ℕ → Pattern → Pattern
+-- at least so often, and at most so often where there is a second number
+abbrev pub times_of : ℕ → Option ℕ → Times
+times_of n None =
+    if n == 0 then any_times else if n == 1 then some_times else least_times n
+times_of n (Some m) =
+    if n == m then exact_times n
+    else if n == 0 && m == 1 then once_at_most else range_times n m
+
+abbrev pub repetition : ℕ → MarkedPattern → MarkedPattern
 repetition zero p = empty
 repetition (suc n) p = cat p (repetition n p)
 
 -- so often, and then as often as is left, each of which may be missing
-abbrev pub quantified_pattern : Times → Pattern → Pattern
+abbrev pub quantified_pattern : Times → MarkedPattern → MarkedPattern
 quantified_pattern any_times p = star p
 quantified_pattern some_times p = plus p
 quantified_pattern once_at_most p = alt empty p
