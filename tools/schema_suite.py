@@ -22,12 +22,14 @@ import unproved
 TOP = Path(__file__).resolve().parent.parent
 SUITE = "/usr/share/perl5/auto/share/dist/Test-JSON-Schema-Acceptance/tests"
 DRAFTS = {"draft4": 4, "draft6": 6, "draft7": 7, "draft2019-09": 201909, "draft2020-12": 202012}
+SERVED_AT = "http://localhost:1234/"  # where the suite says that its documents are
 PROGRAM = "schema_answers"
 USES = f"{PROGRAM}: neldrafi_schema strkw_ecma strkw_report serde_json\n"
-MAIN = """//! Answers lines `[DRAFT, SCHEMA, [INSTANCE, ..]]`, each by one line.
+MAIN = """//! Answers lines `[DRAFT, SCHEMA, [INSTANCE, ..]]`, each by one line. The first line has the documents to which
+//! references may lead: `{DRAFT: {URI: DOCUMENT, ..}, ..}`.
 #![tactic(auto)]
 
-use neldrafi_schema::{Config, Schema, SchemaErrorKind};
+use neldrafi_schema::{Config, Document, Schema, SchemaErrorKind};
 use serde_json::Value;
 use std::alloc::{AllocError, Global};
 use std::io::{BufRead, BufReader};
@@ -46,15 +48,33 @@ fn name_of(kind: &SchemaErrorKind) -> &'static str {
     }
 }
 
-fn answer(alloc: Global, line: &str) -> Result<String, AllocError> {
+fn documents_of<'v>(
+    alloc: Global,
+    library: &'v Value,
+    draft: &Value,
+) -> Result<Vec<Document<'v>>, AllocError> {
+    let mut documents = Vec::new(alloc);
+    let draft = draft.to_string(alloc)?;
+    if let Some(Value::Object(members)) = library.get(draft.as_str()) {
+        for (uri, value) in members.iter() {
+            let uri = uri.as_str();
+            documents.push(Document { uri, value })?;
+        }
+    }
+    Ok(documents)
+}
+
+fn answer(alloc: Global, library: &Value, line: &str) -> Result<String, AllocError> {
     let Ok(group) = Value::from_str(alloc, line) else {
         return String::from_str(alloc, "no JSON");
     };
-    let mut config = Config::new(&EcmaPatterns);
-    config.draft = match group.get(0) {
-        Some(draft) => draft_in(draft),
-        None => None,
+    let Some(draft) = group.get(0) else {
+        return String::from_str(alloc, "no group");
     };
+    let documents = documents_of(alloc, library, draft)?;
+    let mut config = Config::new(&EcmaPatterns);
+    config.draft = draft_in(draft);
+    config.documents = &documents;
     let (Some(document), Some(Value::Array(instances))) = (group.get(1), group.get(2)) else {
         return String::from_str(alloc, "no group");
     };
@@ -83,11 +103,19 @@ fn main(rt: HostRuntime) -> ExitCode {
     let Ok(reader) = BufReader::new(rt.alloc(), rt.reader()) else {
         return ExitCode::FAILURE;
     };
+    let mut library = None;
     for line in reader.lines(rt.alloc()) {
         let Ok(line) = line else {
             return ExitCode::FAILURE;
         };
-        let Ok(told) = answer(rt.alloc(), line.as_str()) else {
+        let Some(documents) = &library else {
+            let Ok(value) = Value::from_str(rt.alloc(), line.as_str()) else {
+                return ExitCode::FAILURE;
+            };
+            library = Some(value);
+            continue;
+        };
+        let Ok(told) = answer(rt.alloc(), documents, line.as_str()) else {
             return ExitCode::FAILURE;
         };
         let _ = rt.println(told.as_str());
@@ -95,18 +123,14 @@ fn main(rt: HostRuntime) -> ExitCode {
     ExitCode::SUCCESS
 }
 """
-# Files with cases that need references by URI, anchors, or documents of other URIs, with the number of such cases.
+# Files with cases that need meta-schemas, dynamic references or vocabularies, with the number of such cases.
 KNOWN = {
-    "draft4/definitions.json": 2, "draft4/id.json": 3, "draft4/ref.json": 12, "draft4/refRemote.json": 17,
-    "draft6/definitions.json": 2, "draft6/id.json": 3, "draft6/ref.json": 24, "draft6/refRemote.json": 21,
-    "draft6/unknownKeyword.json": 3, "draft7/definitions.json": 2, "draft7/id.json": 3, "draft7/ref.json": 32,
-    "draft7/refRemote.json": 21, "draft7/unknownKeyword.json": 3,
-    "draft2019-09/anchor.json": 15, "draft2019-09/defs.json": 2, "draft2019-09/id.json": 16,
-    "draft2019-09/recursiveRef.json": 13, "draft2019-09/ref.json": 33, "draft2019-09/refRemote.json": 29,
-    "draft2019-09/unknownKeyword.json": 3, "draft2019-09/vocabulary.json": 5,
-    "draft2020-12/anchor.json": 15, "draft2020-12/defs.json": 2, "draft2020-12/dynamicRef.json": 32,
-    "draft2020-12/id.json": 16, "draft2020-12/ref.json": 33, "draft2020-12/refRemote.json": 29,
-    "draft2020-12/unknownKeyword.json": 3, "draft2020-12/vocabulary.json": 5,
+    "draft4/definitions.json": 2, "draft4/ref.json": 2, "draft6/definitions.json": 2, "draft6/ref.json": 2,
+    "draft7/definitions.json": 2, "draft7/ref.json": 2,
+    "draft2019-09/anchor.json": 3, "draft2019-09/defs.json": 2, "draft2019-09/id.json": 13,
+    "draft2019-09/recursiveRef.json": 11, "draft2019-09/ref.json": 3, "draft2019-09/vocabulary.json": 5,
+    "draft2020-12/anchor.json": 3, "draft2020-12/defs.json": 2, "draft2020-12/dynamicRef.json": 15,
+    "draft2020-12/id.json": 13, "draft2020-12/ref.json": 3, "draft2020-12/vocabulary.json": 5,
 }
 
 
@@ -122,6 +146,15 @@ def built(folder):
     return unproved.build(PROGRAM, crates)
 
 
+def documents_of(suite, folder):
+    """The documents that the suite serves to a draft, by their URIs: those of its own, and those of no draft."""
+    remotes = suite.parent / "remotes"
+    of_drafts = {path.name for path in remotes.glob("draft*")} - {folder}
+    paths = [path.relative_to(remotes) for path in sorted(remotes.rglob("*.json"))]
+    return {f"{SERVED_AT}{path.as_posix()}": json.loads((remotes / path).read_text("utf-8"))
+            for path in paths if path.parts[0] not in of_drafts}
+
+
 def groups_in(suite):
     """Each group of required cases: its file, its draft, its schema document, and its tests."""
     for folder, draft in DRAFTS.items():
@@ -130,9 +163,10 @@ def groups_in(suite):
                 yield f"{folder}/{path.name}", draft, group
 
 
-def answers(program, groups):
+def answers(program, suite, groups):
     """The line that answers each group."""
-    lines = "".join(json.dumps([draft, group["schema"], [test["data"] for test in group["tests"]]]) + "\n"
+    library = {str(draft): documents_of(suite, folder) for folder, draft in DRAFTS.items()}
+    lines = json.dumps(library) + "\n" + "".join(json.dumps([draft, group["schema"], [test["data"] for test in group["tests"]]]) + "\n"
                     for _, draft, group in groups)
     run = subprocess.run([program], input=lines, capture_output=True, text=True, check=True)
     return run.stdout.splitlines()
@@ -166,7 +200,7 @@ def main():
         return 0 if wanted.if_there else 1
     groups = list(groups_in(wanted.suite))
     with tempfile.TemporaryDirectory() as folder:
-        lines = answers(built(Path(folder)), groups)
+        lines = answers(built(Path(folder)), wanted.suite, groups)
     cases, others = others_of(groups, lines, wanted.told)
     unlike = [file for file in sorted({*others, *KNOWN}) if others.get(file, 0) != KNOWN.get(file, 0)]
     for file in unlike:

@@ -1,12 +1,12 @@
 -- A string keyword, compiled alone.
-use Rattle.std.proofs.Common.{ℕ, ◌≡◌, ◌⊎◌, ◌∙◌, List, [], ◌∷◌, ◌++◌, Bool, true, false, Option, Some, None, Result, Ok, Err, inl, inr, refl, sym, ap, append-nil, subst}
+use Rattle.std.proofs.Common.{ℕ, ◌≡◌, ◌∙◌, List, [], ◌∷◌, Bool, true, false, Option, Some, None, Result, Ok, Err, inl, inr, refl, sym, ap, append-nil, subst}
 use Rattle.std.proofs.lemmas.Bool.{false≢true}
 use Rattle.std.specs.List.{AllByRecursion}
-use Rattle.std.specs.Prelude.{◌&&◌, if◌then◌else◌, MatchOption}
+use Rattle.std.specs.Prelude.{◌&&◌, MatchOption}
 use Rattle.std.specs.Str.{chars}
 use Rattle.serde_json.specs.Data.{Data, Members, member, no_members}
 use Rattle.serde_json.specs.Find.{as_str}
-use Rattle.strkw_report.specs.Refusals.{Refusal, out_of_memory, reason_of as text_reason_of, refusal_of}
+use Rattle.strkw_report.specs.Refusals.{out_of_memory, reason_of as text_reason_of}
 use Rattle.strkw_report.specs.declared.refusal.CompileErrorKind.{CompileErrorKind}
 use Rattle.strkw_report.specs.declared.refusal.CompileErrorKind.TheVariants.{FractionalNumber, Memory, NotString, Regex, Size, UnknownFormat}
 use Rattle.strkw_report.specs.declared.refusal.CompileError.{CompileError}
@@ -14,13 +14,13 @@ use Rattle.strkw_pattern.specs.declared.engine.Outcome.{Outcome}
 use Rattle.strkw_keywords.specs.declared.keyword.Keyword.{Keyword as TextKeyword}
 use Rattle.strkw_keywords.specs.declared.keyword.Keyword.TheVariants.{ContentEncoding, ContentMediaType, ContentSchema, Format, MaxLength, MinLength, Pattern}
 use Rattle.strkw_keywords.specs.declared.validator.Validator.{Validator}
-use Rattle.strkw_keywords.specs.Compiled.{IsCompiledAt, IsCompiledCase, out_of_memory_refusal}
+use Rattle.strkw_keywords.specs.Compiled.{IsCompiledAt, IsCompiledCase}
 use Rattle.strkw_keywords.specs.Demands.{IsInUse}
 use Rattle.strkw_keywords.specs.Errors.{demands_asserted}
 use Rattle.strkw_keywords.specs.Laws.{CompiledIsInUse}
 use Rattle.strkw_keywords.specs.Keywords.{keyword_name}
 use Rattle.strkw_keywords.specs.Object.{AreEntriesOf, Entry, IsEntryAt, IsPatternEntry, IsPatternValue, Keyed, Settings, all_assertions, all_demands, demands_by, engine_entry, is_fused, is_given, keywords, least_entry, malformed as malformed_entry, no_string, nothing, refusal, share, value_at}
-use Rattle.strkw_keywords.specs.Validators.{assertions_of, demands_of, place_of}
+use Rattle.strkw_keywords.specs.Validators.{demands_of, place_of}
 use Rattle.strkw_keywords.proofs.Asserted.{demands_of_placed}
 use Rattle.neldrafi_schema.specs.Paths.{Path}
 use Rattle.neldrafi_schema.specs.Reading.{SaysEntries, TextSays, handed}

@@ -1,9 +1,9 @@
 -- What arrays and keywords come to, by cases.
-use Rattle.std.proofs.Common.{◌≡◌, ◌∙◌, ℕ, List, [], ◌∷◌, ◌++◌, length, map, refl, sym, ap, Bool, true, false, Option, Some, None}
+use Rattle.std.proofs.Common.{◌≡◌, ℕ, List, [], ◌∷◌, ◌++◌, length, map, refl, sym, Bool, true, false, Option, Some, None}
 use Rattle.std.proofs.lemmas.Bool.{false≢true}
 use Rattle.std.specs.Prelude.{is_some, option_and_then, option_map}
 use Rattle.serde_json.specs.Data.{Data, Items, Members}
-use Rattle.serde_json.specs.Find.{as_array, as_str}
+use Rattle.serde_json.specs.Find.{as_str}
 use Rattle.serde_json.specs.View.{items_view, view}
 use Rattle.serde_json.specs.declared.value.Value.{Value}
 use Rattle.strkw_keywords.specs.declared.keyword.Keyword.{Keyword as TextKeyword}
@@ -19,6 +19,7 @@ use Rattle.neldrafi_schema.specs.Rules.{item_list}
 use Rattle.neldrafi_schema.specs.Schemas.{Keyword, Rule, other_items, placed}
 use Rattle.neldrafi_schema.specs.Values.{Lead, all_items, item_leads, items_sense, lead_to, list_sense, says, sense, unless_empty}
 use Rattle.neldrafi_schema.specs.machine.Leads.{is_assertion, is_lacking}
+use Rattle.neldrafi_schema.specs.Documents.{Documents}
 use Rattle.neldrafi_schema.proofs.Items.{item_list_view}
 
 -- ---- arrays that have some, where some are needed
@@ -79,77 +80,83 @@ same_items Draft201909 at (Some ds) n e = absurd (false≢true (sym e))
 
 -- ---- a keyword that is none of these has no schemas
 
-pub assertion_left : (kw : Known) → (kw ≡ known.Dialect → ⊥) → (kw ≡ known.Reference → ⊥) → (kw ≡ known.AllOf → ⊥) → (kw ≡ known.AnyOf → ⊥) → (kw ≡ known.OneOf → ⊥) → (kw ≡ known.Properties → ⊥) → (kw ≡ known.Definitions → ⊥) → (kw ≡ known.Defs → ⊥) → (kw ≡ known.Dependencies → ⊥) → (kw ≡ known.PropertyNames → ⊥) → (kw ≡ known.Contains → ⊥) → (kw ≡ known.DependentSchemas → ⊥) → (kw ≡ known.PrefixItems → ⊥) → ((part : Part) → kw ≡ known.Unevaluated part → ⊥) → (kw ≡ known.If → ⊥) → (kw ≡ known.Not → ⊥) → (kw ≡ known.Then → ⊥) → (kw ≡ known.Else → ⊥) → (kw ≡ known.AdditionalProperties → ⊥) → (kw ≡ known.Items → ⊥) → (kw ≡ known.AdditionalItems → ⊥) → (kw ≡ known.PatternProperties → ⊥) → ((text : TextKeyword) → kw ≡ known.Text text → ⊥) → (kw ≡ known.Unknown → ⊥) → is_assertion kw ≡ true
-assertion_left known.Dialect not_dialect _ _ _ _ _ _ _ _ _ _ _ _ _ _ _ _ _ _ _ _ _ _ _ = absurd (not_dialect refl)
-assertion_left known.Reference _ not_reference _ _ _ _ _ _ _ _ _ _ _ _ _ _ _ _ _ _ _ _ _ _ = absurd (not_reference refl)
-assertion_left known.AllOf _ _ not_allof _ _ _ _ _ _ _ _ _ _ _ _ _ _ _ _ _ _ _ _ _ = absurd (not_allof refl)
-assertion_left known.AnyOf _ _ _ not_anyof _ _ _ _ _ _ _ _ _ _ _ _ _ _ _ _ _ _ _ _ = absurd (not_anyof refl)
-assertion_left known.OneOf _ _ _ _ not_oneof _ _ _ _ _ _ _ _ _ _ _ _ _ _ _ _ _ _ _ = absurd (not_oneof refl)
-assertion_left known.Properties _ _ _ _ _ not_properties _ _ _ _ _ _ _ _ _ _ _ _ _ _ _ _ _ _ = absurd (not_properties refl)
-assertion_left known.Definitions _ _ _ _ _ _ not_definitions _ _ _ _ _ _ _ _ _ _ _ _ _ _ _ _ _ = absurd (not_definitions refl)
-assertion_left known.Defs _ _ _ _ _ _ _ not_defs _ _ _ _ _ _ _ _ _ _ _ _ _ _ _ _ = absurd (not_defs refl)
-assertion_left known.Dependencies _ _ _ _ _ _ _ _ not_dependencies _ _ _ _ _ _ _ _ _ _ _ _ _ _ _ = absurd (not_dependencies refl)
-assertion_left known.PropertyNames _ _ _ _ _ _ _ _ _ not_propertynames _ _ _ _ _ _ _ _ _ _ _ _ _ _ = absurd (not_propertynames refl)
-assertion_left known.Contains _ _ _ _ _ _ _ _ _ _ not_contains _ _ _ _ _ _ _ _ _ _ _ _ _ = absurd (not_contains refl)
-assertion_left known.DependentSchemas _ _ _ _ _ _ _ _ _ _ _ not_dependentschemas _ _ _ _ _ _ _ _ _ _ _ _ = absurd (not_dependentschemas refl)
-assertion_left known.PrefixItems _ _ _ _ _ _ _ _ _ _ _ _ not_prefixitems _ _ _ _ _ _ _ _ _ _ _ = absurd (not_prefixitems refl)
-assertion_left (known.Unevaluated k) _ _ _ _ _ _ _ _ _ _ _ _ _ not_unevaluated _ _ _ _ _ _ _ _ _ _ = absurd (not_unevaluated k refl)
-assertion_left known.If _ _ _ _ _ _ _ _ _ _ _ _ _ _ not_if _ _ _ _ _ _ _ _ _ = absurd (not_if refl)
-assertion_left known.Not _ _ _ _ _ _ _ _ _ _ _ _ _ _ _ not_not _ _ _ _ _ _ _ _ = absurd (not_not refl)
-assertion_left known.Then _ _ _ _ _ _ _ _ _ _ _ _ _ _ _ _ not_then _ _ _ _ _ _ _ = absurd (not_then refl)
-assertion_left known.Else _ _ _ _ _ _ _ _ _ _ _ _ _ _ _ _ _ not_else _ _ _ _ _ _ = absurd (not_else refl)
-assertion_left known.AdditionalProperties _ _ _ _ _ _ _ _ _ _ _ _ _ _ _ _ _ _ not_additionalproperties _ _ _ _ _ = absurd (not_additionalproperties refl)
-assertion_left known.Items _ _ _ _ _ _ _ _ _ _ _ _ _ _ _ _ _ _ _ not_items _ _ _ _ = absurd (not_items refl)
-assertion_left known.AdditionalItems _ _ _ _ _ _ _ _ _ _ _ _ _ _ _ _ _ _ _ _ not_additionalitems _ _ _ = absurd (not_additionalitems refl)
-assertion_left known.PatternProperties _ _ _ _ _ _ _ _ _ _ _ _ _ _ _ _ _ _ _ _ _ not_patternproperties _ _ = absurd (not_patternproperties refl)
-assertion_left (known.Text k) _ _ _ _ _ _ _ _ _ _ _ _ _ _ _ _ _ _ _ _ _ _ not_text _ = absurd (not_text k refl)
-assertion_left known.Unknown _ _ _ _ _ _ _ _ _ _ _ _ _ _ _ _ _ _ _ _ _ _ _ not_unknown = absurd (not_unknown refl)
-assertion_left known.Types _ _ _ _ _ _ _ _ _ _ _ _ _ _ _ _ _ _ _ _ _ _ _ _ = refl
-assertion_left known.Enumeration _ _ _ _ _ _ _ _ _ _ _ _ _ _ _ _ _ _ _ _ _ _ _ _ = refl
-assertion_left known.Constant _ _ _ _ _ _ _ _ _ _ _ _ _ _ _ _ _ _ _ _ _ _ _ _ = refl
-assertion_left known.MultipleOf _ _ _ _ _ _ _ _ _ _ _ _ _ _ _ _ _ _ _ _ _ _ _ _ = refl
-assertion_left (known.Limited l) _ _ _ _ _ _ _ _ _ _ _ _ _ _ _ _ _ _ _ _ _ _ _ _ = refl
-assertion_left (known.Sized size) _ _ _ _ _ _ _ _ _ _ _ _ _ _ _ _ _ _ _ _ _ _ _ _ = refl
-assertion_left known.UniqueItems _ _ _ _ _ _ _ _ _ _ _ _ _ _ _ _ _ _ _ _ _ _ _ _ = refl
-assertion_left known.Required _ _ _ _ _ _ _ _ _ _ _ _ _ _ _ _ _ _ _ _ _ _ _ _ = refl
-assertion_left known.DependentRequired _ _ _ _ _ _ _ _ _ _ _ _ _ _ _ _ _ _ _ _ _ _ _ _ = refl
-assertion_left known.ContainsCount _ _ _ _ _ _ _ _ _ _ _ _ _ _ _ _ _ _ _ _ _ _ _ _ = refl
+pub assertion_left : (kw : Known) → (kw ≡ known.Dialect → ⊥) → (kw ≡ known.Draft4Identifier → ⊥) → (kw ≡ known.Identifier → ⊥) → (kw ≡ known.Anchor → ⊥) → (kw ≡ known.AllOf → ⊥) → (kw ≡ known.AnyOf → ⊥) → (kw ≡ known.OneOf → ⊥) → (kw ≡ known.Properties → ⊥) → (kw ≡ known.Definitions → ⊥) → (kw ≡ known.Defs → ⊥) → (kw ≡ known.Dependencies → ⊥) → (kw ≡ known.PropertyNames → ⊥) → (kw ≡ known.Contains → ⊥) → (kw ≡ known.DependentSchemas → ⊥) → (kw ≡ known.PrefixItems → ⊥) → ((part : Part) → kw ≡ known.Unevaluated part → ⊥) → (kw ≡ known.If → ⊥) → (kw ≡ known.Not → ⊥) → (kw ≡ known.Then → ⊥) → (kw ≡ known.Else → ⊥) → (kw ≡ known.AdditionalProperties → ⊥) → (kw ≡ known.Items → ⊥) → (kw ≡ known.AdditionalItems → ⊥) → (kw ≡ known.PatternProperties → ⊥) → (kw ≡ known.Reference → ⊥) → ((text : TextKeyword) → kw ≡ known.Text text → ⊥) → (kw ≡ known.Unknown → ⊥) → is_assertion kw ≡ true
+assertion_left known.Dialect not_dialect _ _ _ _ _ _ _ _ _ _ _ _ _ _ _ _ _ _ _ _ _ _ _ _ _ _ = absurd (not_dialect refl)
+assertion_left known.Draft4Identifier _ not_draft4identifier _ _ _ _ _ _ _ _ _ _ _ _ _ _ _ _ _ _ _ _ _ _ _ _ _ = absurd (not_draft4identifier refl)
+assertion_left known.Identifier _ _ not_identifier _ _ _ _ _ _ _ _ _ _ _ _ _ _ _ _ _ _ _ _ _ _ _ _ = absurd (not_identifier refl)
+assertion_left known.Anchor _ _ _ not_anchor _ _ _ _ _ _ _ _ _ _ _ _ _ _ _ _ _ _ _ _ _ _ _ = absurd (not_anchor refl)
+assertion_left known.AllOf _ _ _ _ not_allof _ _ _ _ _ _ _ _ _ _ _ _ _ _ _ _ _ _ _ _ _ _ = absurd (not_allof refl)
+assertion_left known.AnyOf _ _ _ _ _ not_anyof _ _ _ _ _ _ _ _ _ _ _ _ _ _ _ _ _ _ _ _ _ = absurd (not_anyof refl)
+assertion_left known.OneOf _ _ _ _ _ _ not_oneof _ _ _ _ _ _ _ _ _ _ _ _ _ _ _ _ _ _ _ _ = absurd (not_oneof refl)
+assertion_left known.Properties _ _ _ _ _ _ _ not_properties _ _ _ _ _ _ _ _ _ _ _ _ _ _ _ _ _ _ _ = absurd (not_properties refl)
+assertion_left known.Definitions _ _ _ _ _ _ _ _ not_definitions _ _ _ _ _ _ _ _ _ _ _ _ _ _ _ _ _ _ = absurd (not_definitions refl)
+assertion_left known.Defs _ _ _ _ _ _ _ _ _ not_defs _ _ _ _ _ _ _ _ _ _ _ _ _ _ _ _ _ = absurd (not_defs refl)
+assertion_left known.Dependencies _ _ _ _ _ _ _ _ _ _ not_dependencies _ _ _ _ _ _ _ _ _ _ _ _ _ _ _ _ = absurd (not_dependencies refl)
+assertion_left known.PropertyNames _ _ _ _ _ _ _ _ _ _ _ not_propertynames _ _ _ _ _ _ _ _ _ _ _ _ _ _ _ = absurd (not_propertynames refl)
+assertion_left known.Contains _ _ _ _ _ _ _ _ _ _ _ _ not_contains _ _ _ _ _ _ _ _ _ _ _ _ _ _ = absurd (not_contains refl)
+assertion_left known.DependentSchemas _ _ _ _ _ _ _ _ _ _ _ _ _ not_dependentschemas _ _ _ _ _ _ _ _ _ _ _ _ _ = absurd (not_dependentschemas refl)
+assertion_left known.PrefixItems _ _ _ _ _ _ _ _ _ _ _ _ _ _ not_prefixitems _ _ _ _ _ _ _ _ _ _ _ _ = absurd (not_prefixitems refl)
+assertion_left (known.Unevaluated k) _ _ _ _ _ _ _ _ _ _ _ _ _ _ _ not_unevaluated _ _ _ _ _ _ _ _ _ _ _ = absurd (not_unevaluated k refl)
+assertion_left known.If _ _ _ _ _ _ _ _ _ _ _ _ _ _ _ _ not_if _ _ _ _ _ _ _ _ _ _ = absurd (not_if refl)
+assertion_left known.Not _ _ _ _ _ _ _ _ _ _ _ _ _ _ _ _ _ not_not _ _ _ _ _ _ _ _ _ = absurd (not_not refl)
+assertion_left known.Then _ _ _ _ _ _ _ _ _ _ _ _ _ _ _ _ _ _ not_then _ _ _ _ _ _ _ _ = absurd (not_then refl)
+assertion_left known.Else _ _ _ _ _ _ _ _ _ _ _ _ _ _ _ _ _ _ _ not_else _ _ _ _ _ _ _ = absurd (not_else refl)
+assertion_left known.AdditionalProperties _ _ _ _ _ _ _ _ _ _ _ _ _ _ _ _ _ _ _ _ not_additionalproperties _ _ _ _ _ _ = absurd (not_additionalproperties refl)
+assertion_left known.Items _ _ _ _ _ _ _ _ _ _ _ _ _ _ _ _ _ _ _ _ _ not_items _ _ _ _ _ = absurd (not_items refl)
+assertion_left known.AdditionalItems _ _ _ _ _ _ _ _ _ _ _ _ _ _ _ _ _ _ _ _ _ _ not_additionalitems _ _ _ _ = absurd (not_additionalitems refl)
+assertion_left known.PatternProperties _ _ _ _ _ _ _ _ _ _ _ _ _ _ _ _ _ _ _ _ _ _ _ not_patternproperties _ _ _ = absurd (not_patternproperties refl)
+assertion_left known.Reference _ _ _ _ _ _ _ _ _ _ _ _ _ _ _ _ _ _ _ _ _ _ _ _ not_reference _ _ = absurd (not_reference refl)
+assertion_left (known.Text k) _ _ _ _ _ _ _ _ _ _ _ _ _ _ _ _ _ _ _ _ _ _ _ _ _ not_text _ = absurd (not_text k refl)
+assertion_left known.Unknown _ _ _ _ _ _ _ _ _ _ _ _ _ _ _ _ _ _ _ _ _ _ _ _ _ _ not_unknown = absurd (not_unknown refl)
+assertion_left known.Types _ _ _ _ _ _ _ _ _ _ _ _ _ _ _ _ _ _ _ _ _ _ _ _ _ _ _ = refl
+assertion_left known.Enumeration _ _ _ _ _ _ _ _ _ _ _ _ _ _ _ _ _ _ _ _ _ _ _ _ _ _ _ = refl
+assertion_left known.Constant _ _ _ _ _ _ _ _ _ _ _ _ _ _ _ _ _ _ _ _ _ _ _ _ _ _ _ = refl
+assertion_left known.MultipleOf _ _ _ _ _ _ _ _ _ _ _ _ _ _ _ _ _ _ _ _ _ _ _ _ _ _ _ = refl
+assertion_left (known.Limited l) _ _ _ _ _ _ _ _ _ _ _ _ _ _ _ _ _ _ _ _ _ _ _ _ _ _ _ = refl
+assertion_left (known.Sized size) _ _ _ _ _ _ _ _ _ _ _ _ _ _ _ _ _ _ _ _ _ _ _ _ _ _ _ = refl
+assertion_left known.UniqueItems _ _ _ _ _ _ _ _ _ _ _ _ _ _ _ _ _ _ _ _ _ _ _ _ _ _ _ = refl
+assertion_left known.Required _ _ _ _ _ _ _ _ _ _ _ _ _ _ _ _ _ _ _ _ _ _ _ _ _ _ _ = refl
+assertion_left known.DependentRequired _ _ _ _ _ _ _ _ _ _ _ _ _ _ _ _ _ _ _ _ _ _ _ _ _ _ _ = refl
+assertion_left known.ContainsCount _ _ _ _ _ _ _ _ _ _ _ _ _ _ _ _ _ _ _ _ _ _ _ _ _ _ _ = refl
 
--- any keyword but two says what its sense does
-pub known_else : (numbered : Numbered) (s : Settings) (document : Data) (path : Path) (ms : Members) (name : List ℕ) (d : Data) (ks : List Keyword) (kw : Known)
-    → (kw ≡ known.PatternProperties → ⊥) → ((text : TextKeyword) → kw ≡ known.Text text → ⊥)
-    → SenseSays numbered name (sense s.draft document ms path (path ++ key name ∷ []) kw d) ks → KnownSays numbered s document path ms name kw d ks
-known_else numbered s document path ms name d ks known.Dialect patterns text stated = stated
-known_else numbered s document path ms name d ks known.Reference patterns text stated = stated
-known_else numbered s document path ms name d ks known.Types patterns text stated = stated
-known_else numbered s document path ms name d ks known.Enumeration patterns text stated = stated
-known_else numbered s document path ms name d ks known.Constant patterns text stated = stated
-known_else numbered s document path ms name d ks known.MultipleOf patterns text stated = stated
-known_else numbered s document path ms name d ks (known.Limited l) patterns text stated = stated
-known_else numbered s document path ms name d ks (known.Sized size) patterns text stated = stated
-known_else numbered s document path ms name d ks known.UniqueItems patterns text stated = stated
-known_else numbered s document path ms name d ks known.Required patterns text stated = stated
-known_else numbered s document path ms name d ks known.Dependencies patterns text stated = stated
-known_else numbered s document path ms name d ks known.Properties patterns text stated = stated
-known_else numbered s document path ms name d ks known.PatternProperties patterns text stated = absurd (patterns refl)
-known_else numbered s document path ms name d ks known.AdditionalProperties patterns text stated = stated
-known_else numbered s document path ms name d ks known.PropertyNames patterns text stated = stated
-known_else numbered s document path ms name d ks known.Items patterns text stated = stated
-known_else numbered s document path ms name d ks known.AdditionalItems patterns text stated = stated
-known_else numbered s document path ms name d ks known.Contains patterns text stated = stated
-known_else numbered s document path ms name d ks known.AllOf patterns text stated = stated
-known_else numbered s document path ms name d ks known.AnyOf patterns text stated = stated
-known_else numbered s document path ms name d ks known.OneOf patterns text stated = stated
-known_else numbered s document path ms name d ks known.Not patterns text stated = stated
-known_else numbered s document path ms name d ks known.If patterns text stated = stated
-known_else numbered s document path ms name d ks known.Then patterns text stated = stated
-known_else numbered s document path ms name d ks known.Else patterns text stated = stated
-known_else numbered s document path ms name d ks known.Definitions patterns text stated = stated
-known_else numbered s document path ms name d ks known.DependentRequired patterns text stated = stated
-known_else numbered s document path ms name d ks known.DependentSchemas patterns text stated = stated
-known_else numbered s document path ms name d ks known.PrefixItems patterns text stated = stated
-known_else numbered s document path ms name d ks known.ContainsCount patterns text stated = stated
-known_else numbered s document path ms name d ks (known.Unevaluated p) patterns text stated = stated
-known_else numbered s document path ms name d ks known.Defs patterns text stated = stated
-known_else numbered s document path ms name d ks (known.Text k) patterns text stated = absurd (text k refl)
-known_else numbered s document path ms name d ks known.Unknown patterns text stated = stated
+-- any keyword but three says what its sense does
+pub known_else : (numbered : Numbered) (s : Settings) (documents : Documents) (path : Path) (ms : Members) (name : List ℕ) (d : Data) (ks : List Keyword) (kw : Known)
+    → (kw ≡ known.PatternProperties → ⊥) → (kw ≡ known.Reference → ⊥) → ((text : TextKeyword) → kw ≡ known.Text text → ⊥)
+    → SenseSays numbered name (sense s.draft ms path (path ++ key name ∷ []) kw d) ks → KnownSays numbered s documents path ms name kw d ks
+known_else numbered s documents path ms name d ks known.Dialect patterns reference text stated = stated
+known_else numbered s documents path ms name d ks known.Reference patterns reference text stated = absurd (reference refl)
+known_else numbered s documents path ms name d ks known.Draft4Identifier patterns reference text stated = stated
+known_else numbered s documents path ms name d ks known.Identifier patterns reference text stated = stated
+known_else numbered s documents path ms name d ks known.Anchor patterns reference text stated = stated
+known_else numbered s documents path ms name d ks known.Types patterns reference text stated = stated
+known_else numbered s documents path ms name d ks known.Enumeration patterns reference text stated = stated
+known_else numbered s documents path ms name d ks known.Constant patterns reference text stated = stated
+known_else numbered s documents path ms name d ks known.MultipleOf patterns reference text stated = stated
+known_else numbered s documents path ms name d ks (known.Limited l) patterns reference text stated = stated
+known_else numbered s documents path ms name d ks (known.Sized size) patterns reference text stated = stated
+known_else numbered s documents path ms name d ks known.UniqueItems patterns reference text stated = stated
+known_else numbered s documents path ms name d ks known.Required patterns reference text stated = stated
+known_else numbered s documents path ms name d ks known.Dependencies patterns reference text stated = stated
+known_else numbered s documents path ms name d ks known.DependentRequired patterns reference text stated = stated
+known_else numbered s documents path ms name d ks known.DependentSchemas patterns reference text stated = stated
+known_else numbered s documents path ms name d ks known.Properties patterns reference text stated = stated
+known_else numbered s documents path ms name d ks known.PatternProperties patterns reference text stated = absurd (patterns refl)
+known_else numbered s documents path ms name d ks known.AdditionalProperties patterns reference text stated = stated
+known_else numbered s documents path ms name d ks known.PropertyNames patterns reference text stated = stated
+known_else numbered s documents path ms name d ks known.PrefixItems patterns reference text stated = stated
+known_else numbered s documents path ms name d ks known.Items patterns reference text stated = stated
+known_else numbered s documents path ms name d ks known.AdditionalItems patterns reference text stated = stated
+known_else numbered s documents path ms name d ks known.Contains patterns reference text stated = stated
+known_else numbered s documents path ms name d ks known.ContainsCount patterns reference text stated = stated
+known_else numbered s documents path ms name d ks known.AllOf patterns reference text stated = stated
+known_else numbered s documents path ms name d ks known.AnyOf patterns reference text stated = stated
+known_else numbered s documents path ms name d ks known.OneOf patterns reference text stated = stated
+known_else numbered s documents path ms name d ks known.Not patterns reference text stated = stated
+known_else numbered s documents path ms name d ks known.If patterns reference text stated = stated
+known_else numbered s documents path ms name d ks known.Then patterns reference text stated = stated
+known_else numbered s documents path ms name d ks known.Else patterns reference text stated = stated
+known_else numbered s documents path ms name d ks known.Definitions patterns reference text stated = stated
+known_else numbered s documents path ms name d ks known.Defs patterns reference text stated = stated
+known_else numbered s documents path ms name d ks (known.Unevaluated p) patterns reference text stated = stated
+known_else numbered s documents path ms name d ks (known.Text k) patterns reference text stated = absurd (text k refl)
+known_else numbered s documents path ms name d ks known.Unknown patterns reference text stated = stated

@@ -1,5 +1,5 @@
 -- What a keyword's value comes to: the schemas to which it leads stand further down, but for that of a reference.
-use Rattle.std.proofs.Common.{◌≡◌, ◌⊎◌, ◌+◌, ◌<◌, ◌++◌, ℕ, suc, sym, List, [], ◌∷◌, length, Bool, true, false, Option, Some, None, inl, inr, refl, arith, length-append}
+use Rattle.std.proofs.Common.{◌≡◌, ◌⊎◌, ◌<◌, ◌++◌, ℕ, suc, sym, List, [], ◌∷◌, length, Bool, true, false, Option, Some, None, inl, inr, refl, arith, length-append}
 use Rattle.std.specs.Prelude.{codes, if◌then◌else◌, is_some, not, ◌&&◌, option_and_then}
 use Rattle.std.specs.List.{AllByRecursion}
 use Rattle.serde_json.specs.Data.{Data, Items, Members, no_items, item, no_members, member}
@@ -20,17 +20,17 @@ use Rattle.neldrafi_schema.specs.declared.known.Known.{Known}
 use Rattle.neldrafi_schema.specs.declared.known.Known.TheVariants as known
 use Rattle.neldrafi_schema.specs.declared.limits.Limit.{Limit}
 use Rattle.neldrafi_schema.specs.declared.limits.Limit.TheVariants as limit
-use Rattle.neldrafi_schema.specs.Drafts.{draft_named, has_unevaluated, is_draft_4}
+use Rattle.neldrafi_schema.specs.Drafts.{draft_named, has_keyword, has_unevaluated, is_anchor, is_draft_4}
+use Rattle.neldrafi_uri.specs.Components.{fragment_of}
 use Rattle.neldrafi_schema.specs.Numbers.{size_in}
 use Rattle.neldrafi_schema.specs.Paths.{Path, Segment, key, place}
-use Rattle.neldrafi_schema.specs.References.{schema_referred}
 use Rattle.neldrafi_schema.specs.Refusals.{is_reference}
 use Rattle.neldrafi_schema.specs.Schemas.{unknown_dialect, wrong_type, Rule, types, among, equal_to, limited, multiple_of, sized, distinct, required, all_of, dependent}
 use Rattle.neldrafi_schema.specs.Schemas.{properties, matching, other_members, no_other_members, member_names, placed, other_items, no_other_items}
-use Rattle.neldrafi_schema.specs.Schemas.{negation, any_of, one_of, contains, where_valid, where_not_valid, condition, unevaluated, held}
-use Rattle.neldrafi_schema.specs.Values.{Lead, Sense, nothing, says, refused, additional_sense, branch_sense, contains_rule, dependencies_in, dependencies_sense, dependency_leads, dependent_names}
-use Rattle.neldrafi_schema.specs.Values.{dialect_sense, distinct_sense, draft_4_sense, flag_sense, greatest_of, has_placed_items, if_rule, is_array, is_condition, lead_below, lead_to, least_of, item_leads, items_sense, limit_sense, list_sense, map_sense}
-use Rattle.neldrafi_schema.specs.Values.{member_leads, names_in, number_sense, of_kind, others_sense, positive_in, sense, target_sense, types_in, values_in}
+use Rattle.neldrafi_schema.specs.Schemas.{negation, any_of, one_of, where_valid, where_not_valid, condition, unevaluated, held}
+use Rattle.neldrafi_schema.specs.Values.{Lead, Sense, nothing, says, refused, additional_sense, anchor_sense, branch_sense, contains_rule, dependencies_in, dependencies_sense, dependency_leads, dependent_names}
+use Rattle.neldrafi_schema.specs.Values.{dialect_sense, distinct_sense, draft_4_sense, flag_sense, greatest_of, has_placed_items, has_some, identifier_sense, if_rule, is_array, is_condition, lead_below, lead_to, least_of, item_leads, items_sense, list_sense, map_sense}
+use Rattle.neldrafi_schema.specs.Values.{member_leads, names_in, number_sense, of_kind, others_sense, positive_in, reference_sense, sense, target_sense, types_in, values_in}
 
 abbrev pub is_matching : Rule → Bool
 is_matching (matching patterns) = true
@@ -131,6 +131,12 @@ module _ (path : Path) where
   target_down (Some target) = record { plain = refl; down = inl refl }
   target_down None = tt
 
+  pub reference_down : (referred : List ℕ → Option Path) (d : Data) → IsSenseDown (reference_sense referred d)
+  reference_down referred d = kind_down (λ text. target_sense (referred text)) (λ text. target_down (referred text)) (as_str d)
+
+  identifier_down : (draft : Draft) (text : List ℕ) → IsSenseDown (identifier_sense draft text)
+  identifier_down draft text = chosen_down (has_keyword draft known.Anchor && has_some (fragment_of text)) (refused wrong_type) nothing tt tt
+
   number_down : (l : Limit) (d : Data) → IsSenseDown (number_sense l d)
   number_down l d = kind_down (λ x. says (limited l x) []) (λ x. no_leads (limited l x) refl) (as_number d)
 
@@ -147,43 +153,46 @@ module _ (path : Path) where
   if_plain true = refl
   if_plain false = refl
 
-  pub sense_down : (draft : Draft) (document : Data) (ms : Members) (at : Path) (k : Known) (d : Data) → length path < length at
-      → IsSenseDown (sense draft document ms path at k d)
-  sense_down draft document ms at known.Dialect d h = kind_down dialect_sense (λ text. chosen_down (is_some (draft_named text)) nothing (refused unknown_dialect) tt tt) (as_str d)
-  sense_down draft document ms at known.Reference d h = kind_down (λ text. target_sense (schema_referred document text)) (λ text. target_down (schema_referred document text)) (as_str d)
-  sense_down draft document ms at known.Types d h = kind_down (λ ts. says (types (not (is_draft_4 draft)) ts) []) (λ ts. no_leads (types (not (is_draft_4 draft)) ts) refl) (types_in d)
-  sense_down draft document ms at known.Enumeration d h = kind_down (λ ds. says (among ds) []) (λ ds. no_leads (among ds) refl) (values_in draft d)
-  sense_down draft document ms at known.Constant d h = no_leads (equal_to d) refl
-  sense_down draft document ms at known.MultipleOf d h = kind_down (λ x. says (multiple_of x) []) (λ x. no_leads (multiple_of x) refl) (positive_in d)
-  sense_down draft document ms at (known.Limited l) d h = chosen_down (is_draft_4 draft) (draft_4_sense ms l d) (number_sense l d) (draft_4_down ms l d) (number_down l d)
-  sense_down draft document ms at (known.Sized s) d h = kind_down (λ n. says (sized s n) []) (λ n. no_leads (sized s n) refl) (size_in d)
-  sense_down draft document ms at known.UniqueItems d h = kind_down distinct_sense (λ b. chosen_down b (says distinct []) nothing (no_leads distinct refl) tt) (as_bool d)
-  sense_down draft document ms at known.Required d h = kind_down (λ names. says (required names) []) (λ names. no_leads (required names) refl) (names_in draft d)
-  sense_down draft document ms at known.Dependencies d h = kind_down (dependencies_sense draft at) (λ inside. dependencies_sense_down at h draft inside) (as_object d)
-  sense_down draft document ms at known.Properties d h = map_down at h properties refl (as_object d)
-  sense_down draft document ms at known.PatternProperties d h = tt
-  sense_down draft document ms at known.AdditionalProperties d h = others_down at h draft no_other_members other_members refl refl (as_bool d)
-  sense_down draft document ms at known.PropertyNames d h = one_down at h member_names refl
-  sense_down draft document ms at known.Items d h = items_sense_down at h draft (as_array d)
-  sense_down draft document ms at known.AdditionalItems d h = additional_down at h draft ms d
-  sense_down draft document ms at known.Contains d h = one_down at h (contains_rule draft ms) refl
-  sense_down draft document ms at known.AllOf d h = list_down at h all_of refl (as_array d)
-  sense_down draft document ms at known.AnyOf d h = list_down at h any_of refl (as_array d)
-  sense_down draft document ms at known.OneOf d h = list_down at h one_of refl (as_array d)
-  sense_down draft document ms at known.Not d h = one_down at h (negation d) refl
-  sense_down draft document ms at known.If d h = one_down at h (if_rule draft ms) (if_plain (is_condition draft ms))
-  sense_down draft document ms at known.DependentRequired d h = kind_down (λ ds. says (dependent ds) []) (λ ds. no_leads (dependent ds) refl)
+  pub sense_down : (draft : Draft) (ms : Members) (at : Path) (k : Known) (d : Data) → length path < length at
+      → IsSenseDown (sense draft ms path at k d)
+  sense_down draft ms at known.Dialect d h = kind_down dialect_sense (λ text. chosen_down (is_some (draft_named text)) nothing (refused unknown_dialect) tt tt) (as_str d)
+  sense_down draft ms at known.Reference d h = tt
+  sense_down draft ms at known.Draft4Identifier d h = kind_down (identifier_sense draft) (identifier_down draft) (as_str d)
+  sense_down draft ms at known.Identifier d h = kind_down (identifier_sense draft) (identifier_down draft) (as_str d)
+  sense_down draft ms at known.Anchor d h = kind_down (anchor_sense draft) (λ text. chosen_down (is_anchor draft text) nothing (refused wrong_type) tt tt) (as_str d)
+  sense_down draft ms at known.Types d h = kind_down (λ ts. says (types (not (is_draft_4 draft)) ts) []) (λ ts. no_leads (types (not (is_draft_4 draft)) ts) refl) (types_in d)
+  sense_down draft ms at known.Enumeration d h = kind_down (λ ds. says (among ds) []) (λ ds. no_leads (among ds) refl) (values_in draft d)
+  sense_down draft ms at known.Constant d h = no_leads (equal_to d) refl
+  sense_down draft ms at known.MultipleOf d h = kind_down (λ x. says (multiple_of x) []) (λ x. no_leads (multiple_of x) refl) (positive_in d)
+  sense_down draft ms at (known.Limited l) d h = chosen_down (is_draft_4 draft) (draft_4_sense ms l d) (number_sense l d) (draft_4_down ms l d) (number_down l d)
+  sense_down draft ms at (known.Sized s) d h = kind_down (λ n. says (sized s n) []) (λ n. no_leads (sized s n) refl) (size_in d)
+  sense_down draft ms at known.UniqueItems d h = kind_down distinct_sense (λ b. chosen_down b (says distinct []) nothing (no_leads distinct refl) tt) (as_bool d)
+  sense_down draft ms at known.Required d h = kind_down (λ names. says (required names) []) (λ names. no_leads (required names) refl) (names_in draft d)
+  sense_down draft ms at known.Dependencies d h = kind_down (dependencies_sense draft at) (λ inside. dependencies_sense_down at h draft inside) (as_object d)
+  sense_down draft ms at known.Properties d h = map_down at h properties refl (as_object d)
+  sense_down draft ms at known.PatternProperties d h = tt
+  sense_down draft ms at known.AdditionalProperties d h = others_down at h draft no_other_members other_members refl refl (as_bool d)
+  sense_down draft ms at known.PropertyNames d h = one_down at h member_names refl
+  sense_down draft ms at known.Items d h = items_sense_down at h draft (as_array d)
+  sense_down draft ms at known.AdditionalItems d h = additional_down at h draft ms d
+  sense_down draft ms at known.Contains d h = one_down at h (contains_rule draft ms) refl
+  sense_down draft ms at known.AllOf d h = list_down at h all_of refl (as_array d)
+  sense_down draft ms at known.AnyOf d h = list_down at h any_of refl (as_array d)
+  sense_down draft ms at known.OneOf d h = list_down at h one_of refl (as_array d)
+  sense_down draft ms at known.Not d h = one_down at h (negation d) refl
+  sense_down draft ms at known.If d h = one_down at h (if_rule draft ms) (if_plain (is_condition draft ms))
+  sense_down draft ms at known.DependentRequired d h = kind_down (λ ds. says (dependent ds) []) (λ ds. no_leads (dependent ds) refl)
       (option_and_then (dependent_names draft) (as_object d))
-  sense_down draft document ms at known.DependentSchemas d h = map_down at h (dependent []) refl (as_object d)
-  sense_down draft document ms at known.PrefixItems d h = list_down at h placed refl (as_array d)
-  sense_down draft document ms at known.ContainsCount d h = kind_down (λ n. nothing) (λ n. tt) (size_in d)
-  sense_down draft document ms at (known.Unevaluated p) d h = others_down at h draft (unevaluated p) (unevaluated p) refl refl (as_bool d)
-  sense_down draft document ms at known.Defs d h = map_down at h held refl (as_object d)
-  sense_down draft document ms at known.Then d h = branch_down at h where_valid ms refl
-  sense_down draft document ms at known.Else d h = branch_down at h where_not_valid ms refl
-  sense_down draft document ms at known.Definitions d h = map_down at h held refl (as_object d)
-  sense_down draft document ms at (known.Text text) d h = tt
-  sense_down draft document ms at known.Unknown d h = tt
+  sense_down draft ms at known.DependentSchemas d h = map_down at h (dependent []) refl (as_object d)
+  sense_down draft ms at known.PrefixItems d h = list_down at h placed refl (as_array d)
+  sense_down draft ms at known.ContainsCount d h = kind_down (λ n. nothing) (λ n. tt) (size_in d)
+  sense_down draft ms at (known.Unevaluated p) d h = others_down at h draft (unevaluated p) (unevaluated p) refl refl (as_bool d)
+  sense_down draft ms at known.Defs d h = map_down at h held refl (as_object d)
+  sense_down draft ms at known.Then d h = branch_down at h where_valid ms refl
+  sense_down draft ms at known.Else d h = branch_down at h where_not_valid ms refl
+  sense_down draft ms at known.Definitions d h = map_down at h held refl (as_object d)
+  sense_down draft ms at (known.Text text) d h = tt
+  sense_down draft ms at known.Unknown d h = tt
 
 -- a rule of a sense has no patterns to be called
 module _ {E : Type 0} (outcome : E → List ℕ → Outcome) (lists : Lists) where

@@ -7,7 +7,7 @@ use Rattle.std.specs.declared.cmp.Ordering.{Ordering}
 use Rattle.std.specs.Ordering.{nat_cmp, match_ordering}
 use Rattle.serde_json.specs.Data.{Data, null, boolean, number, string, array, object, Items, no_items, item, Members, no_members, member, depth, items_depth, members_depth}
 use Rattle.serde_json.specs.Find.{at, get, get_item, get_member}
-use Rattle.neldrafi_schema.specs.Paths.{Segment, key, place, child}
+use Rattle.neldrafi_schema.specs.Paths.{Segment, key, place, document, child}
 use Rattle.neldrafi_schema.specs.Rules.{child_at}
 use Rattle.neldrafi_schema.specs.Schemas.{Branch}
 use Rattle.neldrafi_schema.specs.machine.Ready.{steps_for}
@@ -47,6 +47,7 @@ step_depth : (d : Data) (o : Option Segment) (v : Data) → option_and_then (λ 
 step_depth d None v e = cc
 step_depth d (Some (key name)) v e = value_depth name d v e
 step_depth d (Some (place n)) v e = place_depth n d v e
+step_depth d (Some (document n)) v e = cc
 
 -- the value at a branch's segment
 pub child_depth : (d : Data) (b : Branch) (v : Data) → child_at d b ≡ Some v → depth v < depth d

@@ -1,5 +1,5 @@
 -- Items and members, as lists.
-use Rattle.std.proofs.Common.{◌≡◌, ℕ, zero, suc, ◌<◌, get_or, Some, arith, List, [], ◌∷◌, map, length, refl, ap, ◌∙◌, sym, String, string_bytes, ◌+◌, ◌-◌, ◌≤◌, drop, add-one, None, Bool}
+use Rattle.std.proofs.Common.{◌≡◌, ℕ, zero, suc, ◌<◌, get_or, Some, arith, List, [], ◌∷◌, map, length, refl, ap, ◌∙◌, sym, String, ◌+◌, ◌-◌, ◌≤◌, drop, add-one, None, Bool}
 use Rattle.std.specs.declared.alloc.Global.{Global}
 use Rattle.std.proofs.lemmas.List.{length-map}
 use Rattle.serde_json.specs.Data.{Data, Members, null, boolean, number, string, array, object}

@@ -1,15 +1,13 @@
 -- The first of all problems, and places that stay.
-use Rattle.std.proofs.Common.{◌≡◌, ℕ, zero, suc, ◌+◌, ◌<◌, ◌≤◌, List, [], ◌∷◌, ◌++◌, length, map, refl, sym, ap, ◌∙◌, subst, arith, append_assoc, append-nil, Some, None, Option, Less, Equal, Greater, String, string_bytes, string_cmp, Bool, true, ◌==◌}
-use Rattle.std.proofs.lemmas.Cmp.{nat_cmp_total, nat_list_cmp_total, lists_total, tied_itself}
+use Rattle.std.proofs.Common.{◌≡◌, ℕ, zero, suc, ◌≤◌, List, [], ◌∷◌, ◌++◌, length, refl, sym, ap, ◌∙◌, subst, arith, append_assoc, append-nil, Some, None, Option, Less, Equal, Greater, Bool, true, ◌==◌}
+use Rattle.std.proofs.lemmas.Cmp.{nat_cmp_total, nat_list_cmp_total, lists_total}
 use Rattle.std.specs.Prelude.{slice_get}
-use Rattle.std.specs.declared.alloc.Global.{Global}
 use Rattle.std.specs.Cmp.{IsTotalOrder}
-use Rattle.std.specs.Cmp.Lexicographic.{slice_cmp}
 use Rattle.std.specs.List.{AllByRecursion}
 use Rattle.std.specs.declared.cmp.Ordering.{Ordering}
-use Rattle.std.specs.Ordering.{nat_cmp, ordering_index, ordering_reverse}
+use Rattle.std.specs.Ordering.{ordering_index, ordering_reverse}
 use Rattle.neldrafi_schema.specs.declared.problem.Problem.{Problem}
-use Rattle.neldrafi_schema.specs.Paths.{Path, Segment, key, place, segment_cmp, path_cmp, StandsBefore}
+use Rattle.neldrafi_schema.specs.Paths.{Path, Segment, key, place, document, segment_cmp, path_cmp, StandsBefore}
 use Rattle.neldrafi_schema.specs.machine.Places.{Extends}
 use Rattle.neldrafi_schema.specs.machine.Problems.{IsKept, Notes, problem_of}
 use Rattle.neldrafi_schema.specs.Refusals.{IsFirst, body_problems, problems}
@@ -20,26 +18,33 @@ use Rattle.neldrafi_schema.specs.Schemas.{Schema}
 
 segments_antisymm : (a b : Segment) → segment_cmp a b ≡ ordering_reverse (segment_cmp b a)
 segments_antisymm (key a) (key b) = nat_list_cmp_total.antisymm a b
-segments_antisymm (key a) (place n) = refl
-segments_antisymm (place m) (key b) = refl
 segments_antisymm (place m) (place n) = nat_cmp_total.antisymm m n
+segments_antisymm (document m) (document n) = nat_cmp_total.antisymm m n
+segments_antisymm a b = refl
 
 segments_trans : (a b c : Segment) → segment_cmp a b ≡ Less → segment_cmp b c ≡ Less → segment_cmp a c ≡ Less
 segments_trans (key a) (key b) (key c) p q = nat_list_cmp_total.trans a b c p q
-segments_trans (key a) (key b) (place n) p q = refl
 segments_trans (key a) (place m) (key c) p q = cc
-segments_trans (key a) (place m) (place n) p q = refl
+segments_trans (key a) (document m) (key c) p q = cc
+segments_trans (key a) b (place n) p q = refl
+segments_trans (key a) b (document n) p q = refl
 segments_trans (place m) (key b) c p q = cc
-segments_trans (place m) (place n) (key c) p q = cc
+segments_trans (place l) (place m) (key c) p q = cc
+segments_trans (place l) (document m) (key c) p q = cc
 segments_trans (place l) (place m) (place n) p q = nat_cmp_total.trans l m n p q
+segments_trans (place l) (document m) (place n) p q = cc
+segments_trans (place l) b (document n) p q = refl
+segments_trans (document m) (key b) c p q = cc
+segments_trans (document m) (place n) c p q = cc
+segments_trans (document l) (document m) (key c) p q = cc
+segments_trans (document l) (document m) (place n) p q = cc
+segments_trans (document l) (document m) (document n) p q = nat_cmp_total.trans l m n p q
 
 segments_congr : (a b c : Segment) → segment_cmp a b ≡ Equal → segment_cmp a c ≡ segment_cmp b c
 segments_congr (key a) (key b) (key c) e = nat_list_cmp_total.congr a b c e
-segments_congr (key a) (key b) (place n) e = refl
-segments_congr (key a) (place m) c e = cc
-segments_congr (place m) (key b) c e = cc
-segments_congr (place m) (place n) (key c) e = refl
 segments_congr (place l) (place m) (place n) e = nat_cmp_total.congr l m n e
+segments_congr (document l) (document m) (document n) e = nat_cmp_total.congr l m n e
+segments_congr a b c e = cc
 
 pub paths_total : IsTotalOrder path_cmp
 paths_total = lists_total (record { antisymm = segments_antisymm; trans = segments_trans; congr = segments_congr })

@@ -11,7 +11,8 @@ use Rattle.neldrafi_schema.specs.declared.node.Dependency.{Dependency as Compile
 use Rattle.neldrafi_schema.specs.Schemas.{Dependency}
 use Rattle.neldrafi_schema.specs.machine.Compiled.{dependency_of}
 use Rattle.neldrafi_schema.specs.declared.leads.Lead.{Lead as CompiledLead}
-use Rattle.neldrafi_schema.specs.Paths.{Path, Segment, key, place, child, value_at}
+use Rattle.neldrafi_schema.specs.Documents.{Documents, value_in}
+use Rattle.neldrafi_schema.specs.Paths.{Path, Segment, key, place, child}
 use Rattle.neldrafi_schema.specs.Values.{Lead, dependencies_in, dependent_names, is_array, item_leads, lead_below, lead_to, names_in}
 use Rattle.neldrafi_schema.specs.machine.Places.{IsPlace, place_path}
 use Rattle.neldrafi_schema.specs.machine.Said.{lead_of}
@@ -20,20 +21,20 @@ use Rattle.neldrafi_schema.proofs.Keeping.{all_more}
 use Rattle.neldrafi_schema.proofs.Lists.{mapped_more}
 
 -- a lead to what is at a step of a value
-pub lead_there : (document : Data) (at : Path) (s : Segment) (d v : Data) (l : CompiledLead) → lead_of l ≡ lead_below at s → view l.place.value.now ≡ v
-    → value_at at document ≡ Some d → child s d ≡ Some v → IsPlace document l.place
-lead_there document at s d v l same value there found =
+pub lead_there : (documents : Documents) (at : Path) (s : Segment) (d v : Data) (l : CompiledLead) → lead_of l ≡ lead_below at s → view l.place.value.now ≡ v
+    → value_in documents at ≡ Some d → child s d ≡ Some v → IsPlace documents l.place
+lead_there documents at s d v l same value there found =
     let path : place_path l.place ≡ at ++ s ∷ [] = ap (λ x. x.path) same in
-    rw (path, value) (value_below at document s d v there found)
+    rw (path, value) (value_below at documents s d v there found)
 
 module _ (at : Path) (whole : Data) where
   abbrev pub AreThere : List CompiledLead → Type 0
-  AreThere ls = (document : Data) → value_at at document ≡ Some whole → AllByRecursion (λ l. IsPlace document l.place) ls
+  AreThere ls = (documents : Documents) → value_in documents at ≡ Some whole → AllByRecursion (λ l. IsPlace documents l.place) ls
 
   pub one_there : (ls more : List CompiledLead) (l : CompiledLead) (s : Segment) (v : Data) → AreThere ls → lead_of l ≡ lead_below at s → view l.place.value.now ≡ v
       → child s whole ≡ Some v → more ≡ ls ++ l ∷ [] → AreThere more
-  one_there ls more l s v all same value found e = λ document there.
-      rw e (all_more (λ l. IsPlace document l.place) ls l (all document there) (lead_there document at s whole v l same value there found))
+  one_there ls more l s v all same value found e = λ documents there.
+      rw e (all_more (λ l. IsPlace documents l.place) ls l (all documents there) (lead_there documents at s whole v l same value there found))
 
 -- the leads to some members so far
 module _ (at : Path) (of : Members → List Lead) (all : Members) where
@@ -43,7 +44,7 @@ module _ (at : Path) (of : Members → List Lead) (all : Members) where
     pub there : AreThere at (object all) ls
 
   pub no_leads : ((name : List ℕ) (d : Data) → IsAmong name d all → get_member name all ≡ Some d) → LeadsSoFar all []
-  no_leads found = record { said = refl; found = found; there = λ document there. tt }
+  no_leads found = record { said = refl; found = found; there = λ documents there. tt }
 
   pub one_lead : (name : List ℕ) (d : Data) (rest : Members) (ls more : List CompiledLead) (l : CompiledLead) → LeadsSoFar (member name d rest) ls
       → of (member name d rest) ≡ lead_below at (key name) ∷ of rest → lead_of l ≡ lead_below at (key name) → view l.place.value.now ≡ d → more ≡ ls ++ l ∷ []

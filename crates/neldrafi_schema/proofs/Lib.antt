@@ -25,7 +25,7 @@ pub mod Bodies
 pub mod Alone
 pub mod Deeper
 pub mod Ways
-pub mod Documents
+pub mod Readings
 pub mod Leading
 pub mod Pointers
 pub mod Numbering
@@ -41,3 +41,5 @@ pub mod Gathering
 pub mod Patterns
 pub mod Cases
 pub mod Refusing
+pub mod Identified
+pub mod Referring

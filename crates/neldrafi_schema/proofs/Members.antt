@@ -1,9 +1,8 @@
 -- What was read of the members of a schema object so far.
-use Rattle.std.proofs.Common.{◌≡◌, ℕ, List, [], ◌∷◌, ◌++◌, length, map, refl, sym, ap, ◌∙◌, subst, append_assoc, append-nil, Some, None, Option, Vec, Global, String, string_bytes}
+use Rattle.std.proofs.Common.{◌≡◌, ℕ, List, [], ◌∷◌, ◌++◌, length, map, refl, sym, ap, ◌∙◌, subst, append_assoc, append-nil, Option, Vec, Global, String, string_bytes}
 use Rattle.std.proofs.lemmas.List.{map-append}
 use Rattle.std.specs.List.{AllByRecursion}
 use Rattle.serde_json.specs.Data.{Data, object, Members, no_members, member}
-use Rattle.serde_json.specs.View.{view}
 use Rattle.strkw_pattern.specs.declared.engine.Outcome.{Outcome}
 use Rattle.strkw_keywords.specs.Object.{Settings}
 use Rattle.neldrafi_schema.specs.declared.node.Body.TheVariants as body
@@ -19,12 +18,13 @@ use Rattle.neldrafi_schema.specs.declared.reading.Said.{Said}
 use Rattle.neldrafi_schema.specs.declared.reading.Said.TheVariants as said
 use Rattle.neldrafi_schema.specs.declared.refusal.SchemaErrorKind.{SchemaErrorKind}
 use Rattle.neldrafi_schema.specs.Drafts.{known_named}
-use Rattle.neldrafi_schema.specs.Reading.{KnownSays, MembersSay, BodySays, Numbered, numbered_by}
+use Rattle.neldrafi_schema.specs.Reading.{KnownSays, MembersSay, BodySays, numbered_by}
 use Rattle.neldrafi_schema.specs.machine.Ready.{IsKeywordReady, RestsOn}
 use Rattle.neldrafi_schema.specs.Refusals.{keyword_problems, keywords_problems}
 use Rattle.neldrafi_schema.specs.machine.Said.{Always, IsSaidReady, Reads, meaningful, meaningful_one, said_keywords}
 use Rattle.neldrafi_schema.specs.Schemas.{Keyword, keywords, Reason, malformed}
-use Rattle.neldrafi_schema.proofs.Keeping.{all_more, extends_both, extends_itself, noted_both, nothing_noted}
+use Rattle.neldrafi_schema.specs.Documents.{Documents}
+use Rattle.neldrafi_schema.proofs.Keeping.{all_more, extends_both, noted_both, nothing_noted}
 use Rattle.neldrafi_schema.proofs.Tables.{grown_both, grown_itself}
 
 pub problems-append : (path : Path) (ks others : List Keyword) → keywords_problems path (ks ++ others) ≡ keywords_problems path ks ++ keywords_problems path others
@@ -47,12 +47,12 @@ meaningful-append [] others = refl
 meaningful-append (k ∷ ks) others = ap (λ l. meaningful_one k ++ l) (meaningful-append ks others)
     ∙ sym (append_assoc (meaningful_one k) (meaningful ks) (meaningful others))
 
-module _ {E : Type 0} (outcome : E → List ℕ → Outcome) (s : Settings) (document : Data) (path : Path) (ms : Members) (start : Places) (old : Option Problem) where
+module _ {E : Type 0} (outcome : E → List ℕ → Outcome) (s : Settings) (documents : Documents) (path : Path) (ms : Members) (start : Places) (old : Option Problem) where
   -- what was read, with rest still to come
   pub record ReadSoFar (rest : Members) (places : Places) (first : Option Problem) (ks : List (CompiledKeyword E)) : Type 0 where
     pub said : List Keyword
     pub goes_on : (all : List Path) → Extends (paths_of places.places.items) all → (later : List Keyword)
-        → MembersSay (numbered_by all) s document path ms rest later → MembersSay (numbered_by all) s document path ms ms (said ++ later)
+        → MembersSay (numbered_by all) s documents path ms rest later → MembersSay (numbered_by all) s documents path ms ms (said ++ later)
     pub notes : Notes (keywords_problems path said) old first
     pub same : map (keyword_of outcome) ks ≡ meaningful said
     pub ready : (all : List Path) → Extends (paths_of places.places.items) all → AllByRecursion (IsKeywordReady outcome (RestsOn outcome s.lists) (length all)) ks
@@ -71,7 +71,7 @@ module _ {E : Type 0} (outcome : E → List ℕ → Outcome) (s : Settings) (doc
   -- one member more
   pub read_more : (name : List ℕ) (d : Data) (rest : Members) (places next : Places) (first after : Option Problem) (ks more : List (CompiledKeyword E)) (says : List Keyword)
       → ReadSoFar (member name d rest) places first ks → Grown places next
-      → Always (paths_of next.places.items) (λ numbered. KnownSays numbered s document path ms name (known_named s.draft ms name) d says)
+      → Always (paths_of next.places.items) (λ numbered. KnownSays numbered s documents path ms name (known_named s.draft ms name) d says)
       → Notes (keywords_problems path says) first after
       → map (keyword_of outcome) more ≡ map (keyword_of outcome) ks ++ meaningful says
       → ((all : List Path) → Extends (paths_of next.places.items) all → AllByRecursion (IsKeywordReady outcome (RestsOn outcome s.lists) (length all)) ks
@@ -80,7 +80,7 @@ module _ {E : Type 0} (outcome : E → List ℕ → Outcome) (s : Settings) (doc
   read_more name d rest places next first after ks more says read grown known notes same ready = record {
     said = read.said ++ says;
     goes_on = λ all extends later p.
-        subst (MembersSay (numbered_by all) s document path ms ms) (sym (append_assoc read.said says later))
+        subst (MembersSay (numbered_by all) s documents path ms ms) (sym (append_assoc read.said says later))
         (read.goes_on all (extends_both (paths_of places.places.items) (paths_of next.places.items) all grown.extends extends) (says ++ later)
         (says, later, known all extends, p, refl));
     notes = subst (λ l. Notes l old after) (sym (problems-append path read.said says))
@@ -94,7 +94,7 @@ module _ {E : Type 0} (outcome : E → List ℕ → Outcome) (s : Settings) (doc
   -- a member that says nothing
   pub read_nothing : (name : List ℕ) (d : Data) (rest : Members) (places next : Places) (first : Option Problem) (ks : List (CompiledKeyword E))
       → ReadSoFar (member name d rest) places first ks → Grown places next
-      → Always (paths_of next.places.items) (λ numbered. KnownSays numbered s document path ms name (known_named s.draft ms name) d [])
+      → Always (paths_of next.places.items) (λ numbered. KnownSays numbered s documents path ms name (known_named s.draft ms name) d [])
       → ReadSoFar rest next first ks
   read_nothing name d rest places next first ks read grown known = read_more name d rest places next first first ks ks [] read grown known
       (nothing_noted first) (sym (append-nil (map (keyword_of outcome) ks))) (λ all extends is. is)
@@ -102,7 +102,7 @@ module _ {E : Type 0} (outcome : E → List ℕ → Outcome) (s : Settings) (doc
   -- one that is compiled
   pub read_keyword : (name : List ℕ) (d : Data) (rest : Members) (places next : Places) (first : Option Problem) (ks more : List (CompiledKeyword E)) (k : CompiledKeyword E)
       → ReadSoFar (member name d rest) places first ks → Grown places next
-      → Always (paths_of next.places.items) (λ numbered. KnownSays numbered s document path ms name (known_named s.draft ms name) d (keyword_of outcome k ∷ []))
+      → Always (paths_of next.places.items) (λ numbered. KnownSays numbered s documents path ms name (known_named s.draft ms name) d (keyword_of outcome k ∷ []))
       → ((all : List Path) → Extends (paths_of next.places.items) all → IsKeywordReady outcome (RestsOn outcome s.lists) (length all) k) → more ≡ ks ++ k ∷ []
       → ReadSoFar rest next first more
   read_keyword name d rest places next first ks more k read grown known ready e =
@@ -115,7 +115,7 @@ module _ {E : Type 0} (outcome : E → List ℕ → Outcome) (s : Settings) (doc
   -- one that has no meaning
   pub read_malformed : (name : List ℕ) (d : Data) (rest : Members) (places next : Places) (first after : Option Problem) (ks : List (CompiledKeyword E)) (below : Path) (why : Reason)
       → ReadSoFar (member name d rest) places first ks → Grown places next
-      → Always (paths_of next.places.items) (λ numbered. KnownSays numbered s document path ms name (known_named s.draft ms name) d (malformed below why ∷ []))
+      → Always (paths_of next.places.items) (λ numbered. KnownSays numbered s documents path ms name (known_named s.draft ms name) d (malformed below why ∷ []))
       → Notes ((path ++ below, why) ∷ []) first after → ReadSoFar rest next after ks
   read_malformed name d rest places next first after ks below why read grown known notes =
       read_more name d rest places next first after ks ks (malformed below why ∷ []) read grown known
@@ -124,10 +124,10 @@ module _ {E : Type 0} (outcome : E → List ℕ → Outcome) (s : Settings) (doc
   -- one member more, by what it came to
   module _ (name : List ℕ) (d : Data) (rest : Members) (places next : Places) (first after : Option Problem) (ks more : List (CompiledKeyword E)) (answer : Said E)
       (read : ReadSoFar (member name d rest) places first ks) (grown : Grown places next)
-      (says : Always (paths_of next.places.items) (λ numbered. KnownSays numbered s document path ms name (known_named s.draft ms name) d (said_keywords outcome name answer)))
+      (says : Always (paths_of next.places.items) (λ numbered. KnownSays numbered s documents path ms name (known_named s.draft ms name) d (said_keywords outcome name answer)))
       (ready : IsSaidReady outcome s.lists (paths_of next.places.items) answer) where
     abbrev Says : Said E → Type 0
-    Says o = Always (paths_of next.places.items) (λ numbered. KnownSays numbered s document path ms name (known_named s.draft ms name) d (said_keywords outcome name o))
+    Says o = Always (paths_of next.places.items) (λ numbered. KnownSays numbered s documents path ms name (known_named s.draft ms name) d (said_keywords outcome name o))
 
     pub said_nothing : answer ≡ said.Nothing → after ≡ first → more ≡ ks → ReadSoFar rest next after more
     said_nothing is same are = rw (same, are) (read_nothing name d rest places next first ks read grown (subst Says is says))
@@ -153,10 +153,10 @@ module _ {E : Type 0} (outcome : E → List ℕ → Outcome) (s : Settings) (doc
 
   -- the whole object was read
   pub read_all : (places : Places) (first : Option Problem) (ks : Vec (CompiledKeyword E) Global) → ReadSoFar no_members places first ks.items
-      → Reads outcome s.lists (λ numbered said. BodySays numbered s document path (object ms) said) path (paths_of places.places.items) old first (body.Keywords ks)
+      → Reads outcome s.lists (λ numbered said. BodySays numbered s documents path (object ms) said) path (paths_of places.places.items) old first (body.Keywords ks)
   read_all places first ks read = record {
     said = keywords read.said;
-    means = λ all extends. (read.said, subst (MembersSay (numbered_by all) s document path ms ms) (append-nil read.said) (read.goes_on all extends [] refl), refl);
+    means = λ all extends. (read.said, subst (MembersSay (numbered_by all) s documents path ms ms) (append-nil read.said) (read.goes_on all extends [] refl), refl);
     notes = read.notes;
     same = ap keywords read.same;
     ready = read.ready;

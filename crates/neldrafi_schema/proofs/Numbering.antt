@@ -1,19 +1,17 @@
 -- Leads that are numbered, one after the other.
-use Rattle.std.proofs.Common.{◌≡◌, ℕ, ◌<◌, List, [], ◌∷◌, ◌++◌, length, map, refl, sym, ap, ◌∙◌, subst, append_assoc, append-nil, Some}
+use Rattle.std.proofs.Common.{◌≡◌, ◌<◌, List, [], ◌∷◌, ◌++◌, length, map, refl, sym, ap, ◌∙◌, subst, append_assoc, append-nil}
 use Rattle.std.proofs.lemmas.List.{map-append}
 use Rattle.std.proofs.lemmas.Option.{slice_get_within}
 use Rattle.std.specs.Prelude.{option_map}
 use Rattle.std.specs.List.{AllByRecursion}
-use Rattle.serde_json.specs.View.{view}
 use Rattle.neldrafi_schema.specs.declared.node.Branch.{Branch as CompiledBranch}
 use Rattle.neldrafi_schema.specs.declared.places.Places.{Places}
 use Rattle.neldrafi_schema.specs.declared.leads.Lead.{Lead as CompiledLead}
 use Rattle.neldrafi_schema.specs.Paths.{Path}
 use Rattle.neldrafi_schema.specs.Reading.{AreNumbered, numbered_by}
 use Rattle.neldrafi_schema.specs.Schemas.{Branch}
-use Rattle.neldrafi_schema.specs.Values.{Lead}
 use Rattle.neldrafi_schema.specs.machine.Compiled.{branch_of, branches_of, segment_of}
-use Rattle.neldrafi_schema.specs.machine.Places.{Extends, Grown, IsPlace, IsTable, StaysAt, paths_of, place_path}
+use Rattle.neldrafi_schema.specs.machine.Places.{documents_of, Extends, Grown, IsPlace, IsTable, StaysAt, paths_of, place_path}
 use Rattle.neldrafi_schema.specs.machine.Said.{lead_of}
 use Rattle.neldrafi_schema.proofs.Keeping.{all_more, extends_both}
 use Rattle.neldrafi_schema.proofs.Tables.{grown_both, grown_itself}
@@ -22,12 +20,12 @@ module _ (start : Places) (leads : List CompiledLead) where
   -- with leads that are still to be numbered
   pub record NumberedSoFar (rest : List CompiledLead) (places : Places) (bs : List CompiledBranch) : Type 0 where
     pub grown : Grown start places
-    pub there : AllByRecursion (λ l. IsPlace (view start.document.now) l.place) rest
+    pub there : AllByRecursion (λ l. IsPlace (documents_of start.documents) l.place) rest
     pub goes_on : (all : List Path) → Extends (paths_of places.places.items) all → (later : List Branch)
         → AreNumbered (numbered_by all) (map lead_of rest) later → AreNumbered (numbered_by all) (map lead_of leads) (branches_of bs ++ later)
     pub inside : (all : List Path) → Extends (paths_of places.places.items) all → AllByRecursion (λ b. b.schema < length all) bs
 
-  pub none_numbered : IsTable start → AllByRecursion (λ l. IsPlace (view start.document.now) l.place) leads → NumberedSoFar leads start []
+  pub none_numbered : IsTable start → AllByRecursion (λ l. IsPlace (documents_of start.documents) l.place) leads → NumberedSoFar leads start []
   none_numbered table there = record { grown = grown_itself start table; there = there; goes_on = λ all extends later are. are; inside = λ all extends. tt }
 
   pub one_numbered : (l : CompiledLead) (rest : List CompiledLead) (places next : Places) (bs more : List CompiledBranch) (b : CompiledBranch)

@@ -7,10 +7,10 @@ use Rattle.std.specs.Cmp.Lexicographic.{pointwise, same_text}
 use Rattle.std.specs.Cmp.Lexicographic.{slice_cmp}
 use Rattle.std.specs.declared.cmp.Ordering.{Ordering}
 use Rattle.neldrafi_schema.specs.declared.segment.Segment.{Segment}
-use Rattle.neldrafi_schema.specs.declared.segment.Segment.TheVariants.{Key, Place}
+use Rattle.neldrafi_schema.specs.declared.segment.Segment.TheVariants.{Key, Place, Document}
 use Rattle.neldrafi_schema.specs.contracts.segment.SegmentOrd.TheImpl.{cmp-value}
 use Rattle.neldrafi_schema.specs.contracts.segment.SegmentPartialEq.TheImpl.{eq-value}
-use Rattle.neldrafi_schema.specs.Paths.{key, place, segment_cmp}
+use Rattle.neldrafi_schema.specs.Paths.{key, place, document, segment_cmp}
 use Rattle.neldrafi_schema.specs.machine.Compiled.{path_of, segment_of}
 
 slices_alike : {A : Type 0} (R S : A → A → Ordering) → ((a b : A) → R a b ≡ S a b) → (xs ys : List A) → slice_cmp R xs ys ≡ slice_cmp S xs ys
@@ -21,9 +21,9 @@ slices_alike R S same (x ∷ xs) (y ∷ ys) = rw (same x y, slices_alike R S sam
 
 derived : (a b : Segment) → segment_cmp (segment_of a) (segment_of b) ≡ cmp-value.it a b
 derived (Key a) (Key b) = refl
-derived (Key a) (Place n) = refl
-derived (Place m) (Key b) = refl
 derived (Place m) (Place n) = refl
+derived (Document m) (Document n) = refl
+derived a b = refl
 
 pub derived_paths : (a b : List Segment) → slice_cmp (λ a b. segment_cmp (segment_of a) (segment_of b)) a b ≡ slice_cmp cmp-value.it a b
 derived_paths a b = slices_alike _ _ derived a b
@@ -31,9 +31,9 @@ derived_paths a b = slices_alike _ _ derived a b
 -- segments that are equal as derived stand for the same
 same_segment : (a b : Segment) → eq-value.it a b ≡ true → segment_of a ≡ segment_of b
 same_segment (Key a) (Key b) e = ap key (same_text (string_bytes a) (string_bytes b) (sym e))
-same_segment (Key a) (Place n) e = absurd (false≢true e)
-same_segment (Place m) (Key b) e = absurd (false≢true e)
 same_segment (Place m) (Place n) e = ap place (eqb-true m n e)
+same_segment (Document m) (Document n) e = ap document (eqb-true m n e)
+same_segment a b e = absurd (false≢true e)
 
 both : (a b : Bool) → (a && b) ≡ true → (a ≡ true) × (b ≡ true)
 both true b e = (refl, e)

@@ -11,7 +11,7 @@ use Rattle.std.specs.Str.{all_ascii_digits, is_utf8}
 use Rattle.std.specs.Str.Parse.{ParsesUnsigned, digits_value}
 use Rattle.percent_encoding.specs.Percent.{percent_decode}
 use Rattle.serde_json.specs.Data.{Data}
-use Rattle.neldrafi_schema.specs.Paths.{Path, Segment, child}
+use Rattle.neldrafi_schema.specs.Paths.{Path, child}
 use Rattle.neldrafi_schema.specs.References.{decoded, is_place, path_along, path_of_pointer, path_of_tokens, place_named, segment_at}
 use Rattle.neldrafi_schema.specs.machine.Words.{begins_oddly}
 use Rattle.neldrafi_schema.proofs.Lists.{first_and_others, nothing_in}

@@ -6,11 +6,11 @@ use Rattle.neldrafi_schema.specs.declared.refusal.SchemaErrorKind.TheVariants.{C
 use Rattle.neldrafi_schema.specs.Explanations.{explanation, refusal_text}
 use Rattle.neldrafi_schema.specs.machine.Problems.{reason_of}
 
-pub placed_text : (kind : SchemaErrorKind) (location : List ℕ) → (kind ≡ Memory → ⊥)
-    → codes "at #" ++ location ++ codes ": " ++ explanation (reason_of kind) ≡ refusal_text (reason_of kind) location
-placed_text WrongType location other = refl
-placed_text UnresolvedReference location other = refl
-placed_text CircularReference location other = refl
-placed_text UnknownDialect location other = refl
-placed_text (Text refusal) location other = refl
-placed_text Memory location other = absurd (other refl)
+pub placed_text : (kind : SchemaErrorKind) (uri location : List ℕ) → (kind ≡ Memory → ⊥)
+    → codes "at " ++ uri ++ codes "#" ++ location ++ codes ": " ++ explanation (reason_of kind) ≡ refusal_text (reason_of kind) uri location
+placed_text WrongType uri location other = refl
+placed_text UnresolvedReference uri location other = refl
+placed_text CircularReference uri location other = refl
+placed_text UnknownDialect uri location other = refl
+placed_text (Text refusal) uri location other = refl
+placed_text Memory uri location other = absurd (other refl)

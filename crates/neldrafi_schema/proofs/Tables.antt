@@ -4,11 +4,10 @@ use Rattle.std.specs.Prelude.{option_map, slice_get}
 use Rattle.std.proofs.lemmas.Option.{slice_get-get_or, slice_get-map}
 use Rattle.std.proofs.lemmas.List.{length-map, map-append}
 use Rattle.std.specs.List.{AllByRecursion}
-use Rattle.serde_json.specs.View.{view}
 use Rattle.neldrafi_schema.specs.declared.places.Place.{Place}
 use Rattle.neldrafi_schema.specs.declared.places.Places.{Places}
 use Rattle.neldrafi_schema.specs.Paths.{Path}
-use Rattle.neldrafi_schema.specs.machine.Places.{Extends, Grown, IsPlace, IsTable, StaysAt, paths_of, place_path}
+use Rattle.neldrafi_schema.specs.machine.Places.{Grown, IsPlace, IsTable, StaysAt, documents_of, paths_of, place_path}
 use Rattle.neldrafi_schema.proofs.Keeping.{all_more, extends_both, extends_itself, stays}
 use Rattle.neldrafi_schema.proofs.Lists.{there}
 
@@ -20,26 +19,26 @@ pub some_path : (places : List Place) (i : ℕ) → i < length places → slice_
 some_path places i h = slice_get-get_or (paths_of places) i [] (omega (arith, length-map places place_path))
 
 pub grown_itself : (t : Places) → IsTable t → Grown t t
-grown_itself t table = record { document = refl; extends = extends_itself (paths_of t.places.items); table = table }
+grown_itself t table = record { documents = refl; extends = extends_itself (paths_of t.places.items); table = table }
 
 pub grown_both : (a b c : Places) → Grown a b → Grown b c → Grown a c
 grown_both a b c p q = record {
-  document = q.document ∙ p.document;
+  documents = q.documents ∙ p.documents;
   extends = extends_both (paths_of a.places.items) (paths_of b.places.items) (paths_of c.places.items) p.extends q.extends;
   table = q.table;
 }
 
 -- one place more
-pub grown_push : (t : Places) (ps : Vec Place Global) (p : Place) → IsTable t → IsPlace (view t.document.now) p → ps.items ≡ t.places.items ++ p ∷ []
-    → Grown t (record { document = t.document; places = ps })
+pub grown_push : (t : Places) (ps : Vec Place Global) (p : Place) → IsTable t → IsPlace (documents_of t.documents) p → ps.items ≡ t.places.items ++ p ∷ []
+    → Grown t (record { documents = t.documents; places = ps })
 grown_push t ps p table is e = record {
-  document = refl;
+  documents = refl;
   extends = record {
     more = place_path p ∷ [];
     longer = ap paths_of e ∙ map-append place_path t.places.items (p ∷ []);
   };
   table = record {
-    values = subst (AllByRecursion (IsPlace (view t.document.now))) (sym e) (all_more (IsPlace (view t.document.now)) t.places.items p table.values is);
+    values = subst (AllByRecursion (IsPlace (documents_of t.documents))) (sym e) (all_more (IsPlace (documents_of t.documents)) t.places.items p table.values is);
   };
 }
 

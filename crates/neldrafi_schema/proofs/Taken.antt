@@ -22,7 +22,7 @@ use Rattle.neldrafi_schema.specs.declared.node.Rule.TheVariants as compiled
 use Rattle.neldrafi_schema.specs.declared.targets.Child.{Child as FoundChild}
 use Rattle.neldrafi_schema.specs.Errors.{Kind}
 use Rattle.neldrafi_schema.specs.Meaning.{AreLeft, AreUnevaluated, AreVerdicts, Below, BesideEvaluates, BodyEvaluates, Evaluates, Evaluating, KeywordEvaluates, OneOf, TargetEvaluates, root_site}
-use Rattle.neldrafi_schema.specs.Paths.{Segment, key, place}
+use Rattle.neldrafi_schema.specs.Paths.{Segment, key, place, document}
 use Rattle.neldrafi_schema.specs.Refusals.{ends}
 use Rattle.neldrafi_schema.specs.Rules.{Child, Target, applied, counts_nothing, is_of_part, kinds, left_kinds, on_each, part_of, spans, tested, valid_of}
 use Rattle.neldrafi_schema.specs.Schemas.{Branch, Keyword, Rule, Schema, keywords, rule, unevaluated}
@@ -134,8 +134,10 @@ same_segment_Decides (key a) (key b) = ((λ e. ap key ((bytes_eq-Decides a b).0 
 same_segment_Decides (place m) (place n) = ((λ e. ap place ((Decides-eqb m n).0 e)), (λ e. (Decides-eqb m n).1 (places e))) where
   places : place m ≡ place n → m ≡ n
   places e = cc
-same_segment_Decides (key a) (place n) = ((λ e. absurd (false≢true e)), (λ e. cc))
-same_segment_Decides (place m) (key b) = ((λ e. absurd (false≢true e)), (λ e. cc))
+same_segment_Decides (document m) (document n) = ((λ e. ap document ((Decides-eqb m n).0 e)), (λ e. (Decides-eqb m n).1 (numbers e))) where
+  numbers : document m ≡ document n → m ≡ n
+  numbers e = cc
+same_segment_Decides a b = ((λ e. absurd (false≢true e)), (λ e. cc))
 
 not_true : (b : Bool) → not b ≡ true → b ≡ false
 not_true true e = absurd (false≢true e)

@@ -1,13 +1,10 @@
 -- The tokens of a pointer, and the keys that they stand for.
-use Rattle.std.proofs.Common.{None, ◌<◌, ◌≡◌, ◌≢◌, ◌∙◌, ◌==◌, ℕ, List, [], ◌∷◌, ◌++◌, Bool, true, false, map, refl, sym, ap, cond, eqb-true, lit<, ne_eqb}
+use Rattle.std.proofs.Common.{◌<◌, ◌≡◌, ◌≢◌, ◌∙◌, ◌==◌, ℕ, List, [], ◌∷◌, ◌++◌, Bool, true, false, refl, sym, ap, eqb-true, lit<, ne_eqb}
 use Rattle.std.proofs.Math.Utf8.{encode}
 use Rattle.std.proofs.lemmas.Str.{encode_ascii}
 use Rattle.std.proofs.lemmas.List.Splits.{slice_split-cons_no, slice_split-cons_yes}
 use Rattle.std.specs.List.{flat_map, onto_first, slice_split}
-use Rattle.std.specs.Prelude.{option_and_then}
-use Rattle.serde_json.specs.Data.{Data}
 use Rattle.serde_json.specs.Find.{unescape}
-use Rattle.neldrafi_schema.specs.References.{decoded, path_of_pointer, path_of_reference}
 use Rattle.neldrafi_schema.specs.machine.Words.{after_tilde}
 
 -- a list that is not of those that begin with an ASCII character
@@ -81,11 +78,3 @@ pub parts : (cs : List ℕ) → Parts cs
 unfolding unescape
 parts [] = (refl, refl)
 parts (c ∷ cs) = (in_front c cs (parts cs) (c == 126) refl, behind c cs (parts cs) (c == 126) (c == 49) (c == 48) refl refl refl)
-
-pub no_hash : (document : Data) (text : List ℕ) → ((rest : List ℕ) → text ≢ encode 35 ++ rest) → None ≡ path_of_reference document text
-no_hash document [] not_such = refl
-no_hash document (c ∷ cs) not_such = rw (other c 35 cs (lit< tt) not_such) refl
-
--- behind its `#`
-pub hash_then : (document : Data) (fragment : List ℕ) → path_of_reference document (35 ∷ fragment) ≡ option_and_then (path_of_pointer document) (decoded fragment)
-hash_then document fragment = refl

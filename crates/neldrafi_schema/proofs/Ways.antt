@@ -14,13 +14,15 @@ use Rattle.neldrafi_schema.specs.declared.known.Known.TheVariants as known
 use Rattle.neldrafi_schema.specs.Drafts.{is_draft_4, known_named, reference_name}
 use Rattle.neldrafi_schema.specs.Paths.{Path, key}
 use Rattle.neldrafi_schema.specs.Reading.{AreNumbered, BodySays, KnownSays, MembersSay, PatternPropertiesSay, Patterns, PatternsSay, SaysEntries, SenseSays, malformed_at, numbered_by, patterns}
+use Rattle.neldrafi_schema.specs.References.{schema_referred}
 use Rattle.neldrafi_schema.specs.Refusals.{body_endless, body_ends, ends, in_place, is_in_place, is_reference, keyword_endless, keywords_end, keywords_endless, schema_ends, schemas_endless, schemas_in}
 use Rattle.neldrafi_schema.specs.Schemas.{Branch, Reason, Rule, Body, Keyword, Schema, always, keywords, malformed, neither, never, rule, string_keyword}
 use Rattle.neldrafi_schema.specs.Values.{Lead, Sense, nothing, says, refused, sense}
+use Rattle.neldrafi_schema.specs.Documents.{Documents}
 use Rattle.neldrafi_schema.proofs.Keeping.{all_both}
 use Rattle.neldrafi_schema.proofs.Lists.{past_end}
 use Rattle.neldrafi_schema.proofs.Meaningful.{flag, nil_first, nil_second}
-use Rattle.neldrafi_schema.proofs.Deeper.{IsFarther, IsRuleDown, IsSenseDown, members_down, sense_down}
+use Rattle.neldrafi_schema.proofs.Deeper.{IsFarther, IsRuleDown, IsSenseDown, members_down, reference_down, sense_down}
 use Rattle.neldrafi_schema.proofs.Stable.{all_keep, enough_to_end, steps_keep}
 
 module _ (paths : List Path) where
@@ -73,60 +75,62 @@ module _ (paths : List Path) where
     pattern_properties_down s name (Some ms) ks (found, are, e) =
         patterns_down (path ++ key name ∷ []) name ms found ks (omega (arith, length-append path (key name ∷ []))) e
 
-    sense_says_down : (s : Settings) (document : Data) (ms : Members) (name : List ℕ) (k : Known) (d : Data) (ks : List Keyword)
-        → SenseSays (numbered_by paths) name (sense s.draft document ms path (path ++ key name ∷ []) k d) ks → AreDown ks
-    sense_says_down s document ms name k d ks e =
-        says_down name _ ks (sense_down path s.draft document ms (path ++ key name ∷ []) k d (omega (arith, length-append path (key name ∷ [])))) e
+    sense_says_down : (s : Settings) (ms : Members) (name : List ℕ) (k : Known) (d : Data) (ks : List Keyword)
+        → SenseSays (numbered_by paths) name (sense s.draft ms path (path ++ key name ∷ []) k d) ks → AreDown ks
+    sense_says_down s ms name k d ks e = says_down name _ ks (sense_down path s.draft ms (path ++ key name ∷ []) k d (omega (arith, length-append path (key name ∷ [])))) e
 
-    known_down : (s : Settings) (document : Data) (ms : Members) (name : List ℕ) (k : Known) (d : Data) (ks : List Keyword)
-        → KnownSays (numbered_by paths) s document path ms name k d ks → AreDown ks
-    known_down s document ms name known.Dialect d ks e = sense_says_down s document ms name known.Dialect d ks e
-    known_down s document ms name known.Reference d ks e = sense_says_down s document ms name known.Reference d ks e
-    known_down s document ms name known.Types d ks e = sense_says_down s document ms name known.Types d ks e
-    known_down s document ms name known.Enumeration d ks e = sense_says_down s document ms name known.Enumeration d ks e
-    known_down s document ms name known.Constant d ks e = sense_says_down s document ms name known.Constant d ks e
-    known_down s document ms name known.MultipleOf d ks e = sense_says_down s document ms name known.MultipleOf d ks e
-    known_down s document ms name (known.Limited l) d ks e = sense_says_down s document ms name (known.Limited l) d ks e
-    known_down s document ms name (known.Sized size) d ks e = sense_says_down s document ms name (known.Sized size) d ks e
-    known_down s document ms name known.UniqueItems d ks e = sense_says_down s document ms name known.UniqueItems d ks e
-    known_down s document ms name known.Required d ks e = sense_says_down s document ms name known.Required d ks e
-    known_down s document ms name known.Dependencies d ks e = sense_says_down s document ms name known.Dependencies d ks e
-    known_down s document ms name known.Properties d ks e = sense_says_down s document ms name known.Properties d ks e
-    known_down s document ms name known.PatternProperties d ks e = pattern_properties_down s name (as_object d) ks e
-    known_down s document ms name known.AdditionalProperties d ks e = sense_says_down s document ms name known.AdditionalProperties d ks e
-    known_down s document ms name known.PropertyNames d ks e = sense_says_down s document ms name known.PropertyNames d ks e
-    known_down s document ms name known.Items d ks e = sense_says_down s document ms name known.Items d ks e
-    known_down s document ms name known.AdditionalItems d ks e = sense_says_down s document ms name known.AdditionalItems d ks e
-    known_down s document ms name known.Contains d ks e = sense_says_down s document ms name known.Contains d ks e
-    known_down s document ms name known.AllOf d ks e = sense_says_down s document ms name known.AllOf d ks e
-    known_down s document ms name known.AnyOf d ks e = sense_says_down s document ms name known.AnyOf d ks e
-    known_down s document ms name known.OneOf d ks e = sense_says_down s document ms name known.OneOf d ks e
-    known_down s document ms name known.Not d ks e = sense_says_down s document ms name known.Not d ks e
-    known_down s document ms name known.If d ks e = sense_says_down s document ms name known.If d ks e
-    known_down s document ms name known.Then d ks e = sense_says_down s document ms name known.Then d ks e
-    known_down s document ms name known.Else d ks e = sense_says_down s document ms name known.Else d ks e
-    known_down s document ms name known.Definitions d ks e = sense_says_down s document ms name known.Definitions d ks e
-    known_down s document ms name known.DependentRequired d ks e = sense_says_down s document ms name known.DependentRequired d ks e
-    known_down s document ms name known.DependentSchemas d ks e = sense_says_down s document ms name known.DependentSchemas d ks e
-    known_down s document ms name known.PrefixItems d ks e = sense_says_down s document ms name known.PrefixItems d ks e
-    known_down s document ms name known.ContainsCount d ks e = sense_says_down s document ms name known.ContainsCount d ks e
-    known_down s document ms name known.Defs d ks e = sense_says_down s document ms name known.Defs d ks e
-    known_down s document ms name (known.Unevaluated part) d ks e = sense_says_down s document ms name (known.Unevaluated part) d ks e
-    known_down s document ms name (known.Text text) d ks e = entries_down _ _ _ ks e.said
-    known_down s document ms name known.Unknown d ks e = sense_says_down s document ms name known.Unknown d ks e
+    known_down : (s : Settings) (documents : Documents) (ms : Members) (name : List ℕ) (k : Known) (d : Data) (ks : List Keyword)
+        → KnownSays (numbered_by paths) s documents path ms name k d ks → AreDown ks
+    known_down s documents ms name known.Dialect d ks e = sense_says_down s ms name known.Dialect d ks e
+    known_down s documents ms name known.Reference d ks e = says_down name _ ks (reference_down path (schema_referred s.draft documents path) d) e
+    known_down s documents ms name known.Draft4Identifier d ks e = sense_says_down s ms name known.Draft4Identifier d ks e
+    known_down s documents ms name known.Identifier d ks e = sense_says_down s ms name known.Identifier d ks e
+    known_down s documents ms name known.Anchor d ks e = sense_says_down s ms name known.Anchor d ks e
+    known_down s documents ms name known.Types d ks e = sense_says_down s ms name known.Types d ks e
+    known_down s documents ms name known.Enumeration d ks e = sense_says_down s ms name known.Enumeration d ks e
+    known_down s documents ms name known.Constant d ks e = sense_says_down s ms name known.Constant d ks e
+    known_down s documents ms name known.MultipleOf d ks e = sense_says_down s ms name known.MultipleOf d ks e
+    known_down s documents ms name (known.Limited l) d ks e = sense_says_down s ms name (known.Limited l) d ks e
+    known_down s documents ms name (known.Sized size) d ks e = sense_says_down s ms name (known.Sized size) d ks e
+    known_down s documents ms name known.UniqueItems d ks e = sense_says_down s ms name known.UniqueItems d ks e
+    known_down s documents ms name known.Required d ks e = sense_says_down s ms name known.Required d ks e
+    known_down s documents ms name known.Dependencies d ks e = sense_says_down s ms name known.Dependencies d ks e
+    known_down s documents ms name known.DependentRequired d ks e = sense_says_down s ms name known.DependentRequired d ks e
+    known_down s documents ms name known.DependentSchemas d ks e = sense_says_down s ms name known.DependentSchemas d ks e
+    known_down s documents ms name known.Properties d ks e = sense_says_down s ms name known.Properties d ks e
+    known_down s documents ms name known.PatternProperties d ks e = pattern_properties_down s name (as_object d) ks e
+    known_down s documents ms name known.AdditionalProperties d ks e = sense_says_down s ms name known.AdditionalProperties d ks e
+    known_down s documents ms name known.PropertyNames d ks e = sense_says_down s ms name known.PropertyNames d ks e
+    known_down s documents ms name known.PrefixItems d ks e = sense_says_down s ms name known.PrefixItems d ks e
+    known_down s documents ms name known.Items d ks e = sense_says_down s ms name known.Items d ks e
+    known_down s documents ms name known.AdditionalItems d ks e = sense_says_down s ms name known.AdditionalItems d ks e
+    known_down s documents ms name known.Contains d ks e = sense_says_down s ms name known.Contains d ks e
+    known_down s documents ms name known.ContainsCount d ks e = sense_says_down s ms name known.ContainsCount d ks e
+    known_down s documents ms name known.AllOf d ks e = sense_says_down s ms name known.AllOf d ks e
+    known_down s documents ms name known.AnyOf d ks e = sense_says_down s ms name known.AnyOf d ks e
+    known_down s documents ms name known.OneOf d ks e = sense_says_down s ms name known.OneOf d ks e
+    known_down s documents ms name known.Not d ks e = sense_says_down s ms name known.Not d ks e
+    known_down s documents ms name known.If d ks e = sense_says_down s ms name known.If d ks e
+    known_down s documents ms name known.Then d ks e = sense_says_down s ms name known.Then d ks e
+    known_down s documents ms name known.Else d ks e = sense_says_down s ms name known.Else d ks e
+    known_down s documents ms name known.Definitions d ks e = sense_says_down s ms name known.Definitions d ks e
+    known_down s documents ms name known.Defs d ks e = sense_says_down s ms name known.Defs d ks e
+    known_down s documents ms name (known.Unevaluated part) d ks e = sense_says_down s ms name (known.Unevaluated part) d ks e
+    known_down s documents ms name (known.Text text) d ks e = entries_down _ _ _ ks e.said
+    known_down s documents ms name known.Unknown d ks e = sense_says_down s ms name known.Unknown d ks e
 
-  module _ (s : Settings) (document : Data) (path : Path) where
-    all_members_down : (all ms : Members) (ks : List Keyword) → MembersSay (numbered_by paths) s document path all ms ks → AllByRecursion (IsDown path) ks
+  module _ (s : Settings) (documents : Documents) (path : Path) where
+    all_members_down : (all ms : Members) (ks : List Keyword) → MembersSay (numbered_by paths) s documents path all ms ks → AllByRecursion (IsDown path) ks
     all_members_down all no_members ks e = rw e tt
     all_members_down all (member name d ms) ks (first, later, stated, more, e) =
-        rw e (all_both (IsDown path) first later (known_down path s document all name (known_named s.draft all name) d first stated) (all_members_down all ms later more))
+        rw e (all_both (IsDown path) first later (known_down path s documents all name (known_named s.draft all name) d first stated) (all_members_down all ms later more))
 
     boolean_down : (draft_4 b : Bool) → IsBodyDown path (if draft_4 then neither else (if b then always else never))
     boolean_down true b = tt
     boolean_down false true = tt
     boolean_down false false = tt
 
-    pub body_down : (d : Data) (body : Body) → BodySays (numbered_by paths) s document path d body → IsBodyDown path body
+    pub body_down : (d : Data) (body : Body) → BodySays (numbered_by paths) s documents path d body → IsBodyDown path body
     body_down null body e = rw e tt
     body_down (boolean b) body e = rw e (boolean_down (is_draft_4 s.draft) b)
     body_down (number x) body e = rw e tt

@@ -1,7 +1,9 @@
 -- The drafts: their names in `$schema`, and which keywords each has.
-use Rattle.std.specs.Prelude.{◌==◌, ℕ, List, ◌++◌, Bool, true, false, not, ◌&&◌, ◌||◌, Option, Some, None}
+use Rattle.std.specs.Prelude.{◌==◌, ℕ, List, [], ◌∷◌, ◌++◌, Bool, true, false, not, ◌&&◌, ◌||◌, Option, Some, None}
 use Rattle.std.specs.Prelude.{codes, nat_le, if◌then◌else◌, is_some, option_and_then, unwrap_or}
-use Rattle.std.specs.Str.{bytes_eq}
+use Rattle.std.specs.List.{list_all, list_any}
+use Rattle.std.specs.Char.{is_ascii_alphanumeric, is_ascii_alphabetic}
+use Rattle.std.specs.Str.{byte, bytes_eq}
 use Rattle.serde_json.specs.Data.{Data, Members}
 use Rattle.serde_json.specs.Find.{get, get_member, as_str}
 use Rattle.strkw_report.specs.declared.draft.Draft.{Draft}
@@ -45,6 +47,9 @@ abbrev pub named : List ℕ → Known
 named name =
     if bytes_eq name (codes "$schema") then known.Dialect
     else (if bytes_eq name reference_name then known.Reference
+    else (if bytes_eq name (codes "id") then known.Draft4Identifier
+    else (if bytes_eq name (codes "$id") then known.Identifier
+    else (if bytes_eq name (codes "$anchor") then known.Anchor
     else (if bytes_eq name (codes "type") then known.Types
     else (if bytes_eq name (codes "enum") then known.Enumeration
     else (if bytes_eq name (codes "const") then known.Constant
@@ -87,7 +92,7 @@ named name =
     else (if bytes_eq name (keyword_name text.MinLength) then known.Text text.MinLength
     else (if bytes_eq name (keyword_name text.MaxLength) then known.Text text.MaxLength
     else (if bytes_eq name (keyword_name text.Pattern) then known.Text text.Pattern
-    else known.Unknown)))))))))))))))))))))))))))))))))))))))))))
+    else known.Unknown))))))))))))))))))))))))))))))))))))))))))))))
 
 -- drafts in their order
 abbrev pub draft_number : Draft → ℕ
@@ -99,12 +104,14 @@ draft_number Draft202012 = 9
 
 -- the first draft that has a keyword, and the last
 abbrev pub since : Known → Draft
+since known.Identifier = Draft6
 since known.Constant = Draft6
 since known.PropertyNames = Draft6
 since known.Contains = Draft6
 since known.If = Draft7
 since known.Then = Draft7
 since known.Else = Draft7
+since known.Anchor = Draft201909
 since known.ContainsCount = Draft201909
 since known.DependentRequired = Draft201909
 since known.DependentSchemas = Draft201909
@@ -114,6 +121,7 @@ since known.PrefixItems = Draft202012
 since keyword = Draft4
 
 abbrev pub until : Known → Draft
+until known.Draft4Identifier = Draft4
 until known.Dependencies = Draft7
 until known.AdditionalItems = Draft201909
 until keyword = Draft202012
@@ -138,10 +146,14 @@ stays_beside_reference known.Dialect = true
 stays_beside_reference known.Reference = true
 stays_beside_reference other = false
 
+-- whether the object ms has a reference beside which others are ignored
+abbrev pub has_lone_reference : Draft → Members → Bool
+has_lone_reference draft ms = ignores_siblings draft && is_some (get_member reference_name ms)
+
 -- whether a member of the object ms says something by a draft
 abbrev pub counts : Draft → Members → Known → Bool
-counts draft ms keyword = has_keyword draft keyword && (stays_beside_reference keyword
-    || not (ignores_siblings draft && is_some (get_member reference_name ms)))
+counts draft ms keyword = has_keyword draft keyword
+    && (stays_beside_reference keyword || not (has_lone_reference draft ms))
 
 -- The keyword of a name among the members ms. A name that is not known says nothing (Core 2020-12,
 -- section 6.5).
@@ -151,3 +163,33 @@ known_named draft ms name = if counts draft ms (named name) then named name else
 abbrev pub is_draft_4 : Draft → Bool
 is_draft_4 Draft4 = true
 is_draft_4 later = false
+
+-- ---- what identifies a schema
+
+abbrev pub identifier_name : Draft → List ℕ
+identifier_name draft = if is_draft_4 draft then codes "id" else codes "$id"
+
+-- `$id` of the object ms, or `id` in draft 4
+abbrev pub identifier_in : Draft → Members → Option (List ℕ)
+identifier_in draft ms = if has_lone_reference draft ms then None
+    else option_and_then as_str (get_member (identifier_name draft) ms)
+
+abbrev pub anchor_in : Draft → Members → Option (List ℕ)
+anchor_in draft ms = if has_keyword draft known.Anchor
+    then option_and_then as_str (get_member (codes "$anchor") ms) else None
+
+abbrev pub is_any_of : List ℕ → ℕ → Bool
+is_any_of characters c = list_any (λ b. b == c) characters
+
+-- 2019-09 has `:` and no `_` at the beginning (Core, section 8.2.3; 2020-12, Core, section 8.2.2).
+abbrev pub begins_anchor : Draft → ℕ → Bool
+begins_anchor Draft201909 c = is_ascii_alphabetic c
+begins_anchor other c = is_ascii_alphabetic c || c == byte "_"
+
+abbrev pub goes_on_in_anchor : Draft → ℕ → Bool
+goes_on_in_anchor Draft201909 c = is_ascii_alphanumeric c || is_any_of (codes "-_.:") c
+goes_on_in_anchor other c = is_ascii_alphanumeric c || is_any_of (codes "-_.") c
+
+abbrev pub is_anchor : Draft → List ℕ → Bool
+is_anchor draft [] = false
+is_anchor draft (c ∷ cs) = begins_anchor draft c && list_all (goes_on_in_anchor draft) cs

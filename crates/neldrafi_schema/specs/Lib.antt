@@ -6,6 +6,8 @@ pub mod Schemas
 pub mod Errors
 pub mod Explanations
 pub mod Rules
+pub mod Documents
+pub mod Resources
 pub mod References
 pub mod Drafts
 pub mod Values

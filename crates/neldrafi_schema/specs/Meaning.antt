@@ -9,7 +9,7 @@ use Rattle.strkw_report.specs.Paths.{path_below}
 use Rattle.strkw_report.specs.declared.error.Site.{Site}
 use Rattle.strkw_keywords.specs.Errors.{Assertion, NodeReports}
 use Rattle.strkw_keywords.specs.Meanings.{Lists}
-use Rattle.neldrafi_schema.specs.Paths.{Path, Segment, location_of}
+use Rattle.neldrafi_schema.specs.Paths.{Segment, location_of}
 use Rattle.neldrafi_schema.specs.Errors.{Kind, false_schema, Error, found, of_text}
 use Rattle.neldrafi_schema.specs.Schemas.{Keyword, rule, string_keyword, malformed, Rule, Branch}
 use Rattle.neldrafi_schema.specs.declared.node.Part.{Part}

@@ -1,7 +1,7 @@
 -- Which list of schemas a document says.
-use Rattle.std.specs.Prelude.{◌≡◌, ◌⊎◌, ℕ, List, [], ◌∷◌, ◌++◌, map, Bool, Option, Some, None}
+use Rattle.std.specs.Prelude.{◌≡◌, ◌⊎◌, ℕ, List, [], ◌∷◌, ◌++◌, map, Option, Some, None}
 use Rattle.std.specs.Prelude.{if◌then◌else◌, slice_get, option_map, unwrap_or}
-use Rattle.serde_json.specs.Data.{Data, null, boolean, number, string, array, object, unsigned}
+use Rattle.serde_json.specs.Data.{Data, boolean, number, string, object, unsigned}
 use Rattle.serde_json.specs.Data.{Members, no_members, member}
 use Rattle.serde_json.specs.Find.{as_object}
 use Rattle.strkw_report.specs.Refusals.{Refusal}
@@ -13,11 +13,13 @@ use Rattle.strkw_keywords.specs.Object.{Settings, Keyed, AreEntriesOf, refusal, 
 use Rattle.neldrafi_schema.specs.declared.known.Known.{Known}
 use Rattle.neldrafi_schema.specs.declared.known.Known.TheVariants as known
 use Rattle.neldrafi_schema.specs.Numbers.{size_in}
-use Rattle.neldrafi_schema.specs.Paths.{Path, Segment, key, location_of, value_at}
+use Rattle.neldrafi_schema.specs.Paths.{Path, key, document, location_of}
+use Rattle.neldrafi_schema.specs.Documents.{Documents, value_in}
 use Rattle.neldrafi_schema.specs.Drafts.{is_draft_4, known_named}
-use Rattle.neldrafi_schema.specs.Values.{Lead, Sense, nothing, says, refused, sense, member_leads}
+use Rattle.neldrafi_schema.specs.Values.{Lead, Sense, nothing, says, refused, sense, reference_sense, member_leads}
+use Rattle.neldrafi_schema.specs.References.{schema_referred}
 use Rattle.neldrafi_schema.specs.Settings.{document_settings, keyword_settings}
-use Rattle.neldrafi_schema.specs.Schemas.{Reason, wrong_type, by_string_keyword, Rule, matching, Branch}
+use Rattle.neldrafi_schema.specs.Schemas.{Reason, wrong_type, by_string_keyword, matching, Branch}
 use Rattle.neldrafi_schema.specs.Schemas.{Keyword, rule, string_keyword, malformed}
 use Rattle.neldrafi_schema.specs.Schemas.{Body, always, never, keywords, neither, Schema}
 
@@ -100,47 +102,49 @@ PatternPropertiesSay numbered s path name (Some ms) ks = (found : Patterns)
 -- ---- the members of the schema object at a path
 
 -- what a member of the object ms comes to
-abbrev pub KnownSays : Numbered → Settings → Data → Path → Members → List ℕ → Known → Data
+abbrev pub KnownSays : Numbered → Settings → Documents → Path → Members → List ℕ → Known → Data
     → List Keyword → Type 0
-KnownSays numbered s document path ms name known.PatternProperties d ks =
+KnownSays numbered s documents path ms name known.PatternProperties d ks =
     PatternPropertiesSay numbered s path name (as_object d) ks
-KnownSays numbered s document path ms name (known.Text k) d ks =
+KnownSays numbered s documents path ms name known.Reference d ks = SenseSays numbered name
+    (reference_sense (schema_referred s.draft documents path) d) ks
+KnownSays numbered s documents path ms name (known.Text k) d ks =
     TextSays (keyword_settings s path k) (key name ∷ []) k d ks
-KnownSays numbered s document path ms name other d ks =
-    SenseSays numbered name (sense s.draft document ms path (path ++ key name ∷ []) other d) ks
+KnownSays numbered s documents path ms name other d ks =
+    SenseSays numbered name (sense s.draft ms path (path ++ key name ∷ []) other d) ks
 
 -- member by member, in the order of the document
-abbrev pub MembersSay : Numbered → Settings → Data → Path → Members → Members → List Keyword → Type 0
-MembersSay numbered s document path ms no_members ks = ks ≡ []
-MembersSay numbered s document path ms (member name d rest) ks = (first : List Keyword)
+abbrev pub MembersSay : Numbered → Settings → Documents → Path → Members → Members → List Keyword → Type 0
+MembersSay numbered s documents path ms no_members ks = ks ≡ []
+MembersSay numbered s documents path ms (member name d rest) ks = (first : List Keyword)
     × (later : List Keyword)
-    × KnownSays numbered s document path ms name (known_named s.draft ms name) d first
-    × MembersSay numbered s document path ms rest later × (ks ≡ first ++ later)
+    × KnownSays numbered s documents path ms name (known_named s.draft ms name) d first
+    × MembersSay numbered s documents path ms rest later × (ks ≡ first ++ later)
 
 -- draft 4 has no booleans for schemas
-abbrev pub BodySays : Numbered → Settings → Data → Path → Data → Body → Type 0
-BodySays numbered s document path (boolean b) body =
+abbrev pub BodySays : Numbered → Settings → Documents → Path → Data → Body → Type 0
+BodySays numbered s documents path (boolean b) body =
     body ≡ (if is_draft_4 s.draft then neither else (if b then always else never))
-BodySays numbered s document path (object ms) body = (ks : List Keyword)
-    × MembersSay numbered s document path ms ms ks × (body ≡ keywords ks)
-BodySays numbered s document path other body = body ≡ neither
+BodySays numbered s documents path (object ms) body = (ks : List Keyword)
+    × MembersSay numbered s documents path ms ms ks × (body ≡ keywords ks)
+BodySays numbered s documents path other body = body ≡ neither
 
--- the schema at a path of the document says this
-pub record SchemaSays (numbered : Numbered) (s : Settings) (document : Data) (path : Path)
+-- the schema at a path says this
+pub record SchemaSays (numbered : Numbered) (s : Settings) (documents : Documents) (path : Path)
     (body : Body) : Type 0 where
   pub value : Data
-  pub stands : value_at path document ≡ Some value
-  pub says : BodySays numbered s document path value body
+  pub stands : value_in documents path ≡ Some value
+  pub says : BodySays numbered s documents path value body
 
 -- a number stands for the schema at the path of that number
 abbrev pub numbered_by : List Path → Numbered
 numbered_by paths n path = slice_get paths n ≡ Some path
 
--- The document says this list: the schemas at these paths, the first of which is the root.
-pub record Says (s : Settings) (document : Data) (schemas : List Schema) : Type 0 where
+-- The documents say this list: the schemas at these paths, the first of which is the root of the first.
+pub record Says (s : Settings) (documents : Documents) (schemas : List Schema) : Type 0 where
   pub paths : List Path
   pub located : map (λ t. t.location) schemas ≡ map location_of paths
-  pub root : slice_get paths 0 ≡ Some []
+  pub root : slice_get paths 0 ≡ Some (document 0 ∷ [])
   pub each : (n : ℕ) (path : Path) (t : Schema) → slice_get paths n ≡ Some path
       → slice_get schemas n ≡ Some t
-      → SchemaSays (numbered_by paths) (document_settings s document) document path t.body
+      → SchemaSays (numbered_by paths) (document_settings s documents.schema) documents path t.body

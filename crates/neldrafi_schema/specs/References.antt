@@ -1,7 +1,7 @@
--- Where a reference leads: `#` and a JSON pointer, percent-encoded (Core 2020-12, section 8.2.3.1;
--- RFC 6901, sections 4 and 6).
-use Rattle.std.specs.Prelude.{ℕ, List, [], ◌∷◌, Bool, true, false, Option, Some, None}
-use Rattle.std.specs.Prelude.{option_and_then, option_map, if◌then◌else◌, ◌==◌, not, ◌&&◌, ◌||◌}
+-- Where a reference leads: to a resource by its URI, and in it by a JSON pointer or a plain name
+-- (Core 2020-12, section 8.2.3.1; RFC 6901, sections 4 and 6).
+use Rattle.std.specs.Prelude.{ℕ, List, [], ◌∷◌, ◌++◌, Bool, true, false, Option, Some, None}
+use Rattle.std.specs.Prelude.{option_and_then, option_map, unwrap_or, if◌then◌else◌, ◌==◌, not, ◌&&◌, ◌||◌}
 use Rattle.std.specs.Prelude.{◌^◌, nat_lt, length, slice_index}
 use Rattle.std.specs.List.{slice_split}
 use Rattle.std.specs.Str.{all_ascii_digits, byte, is_utf8}
@@ -9,7 +9,12 @@ use Rattle.std.specs.Str.Parse.{digits_value}
 use Rattle.serde_json.specs.Data.{Data, null, boolean, number, string, array, object}
 use Rattle.serde_json.specs.Find.{unescape}
 use Rattle.percent_encoding.specs.Percent.{percent_decode}
-use Rattle.neldrafi_schema.specs.Paths.{Path, Segment, key, place, child, value_at}
+use Rattle.strkw_report.specs.declared.draft.Draft.{Draft}
+use Rattle.neldrafi_uri.specs.Components.{fragment_of, without_fragment}
+use Rattle.neldrafi_uri.specs.Resolution.{resolved}
+use Rattle.neldrafi_schema.specs.Paths.{Path, Segment, key, place, child}
+use Rattle.neldrafi_schema.specs.Resources.{Identifier, all_identifiers, base_among, identified}
+use Rattle.neldrafi_schema.specs.Documents.{Documents, value_in}
 
 -- digits, with no 0 before another
 abbrev pub is_place : List ℕ → Bool
@@ -53,10 +58,34 @@ abbrev pub decoded : List ℕ → Option (List ℕ)
 decoded fragment =
     if is_utf8 (percent_decode fragment) then Some (percent_decode fragment) else None
 
-abbrev pub path_of_reference : Data → List ℕ → Option Path
-path_of_reference document [] = None
-path_of_reference document (c ∷ fragment) =
-    if c == byte "#" then option_and_then (path_of_pointer document) (decoded fragment) else None
+-- what a pointer names, from the value at a path on
+abbrev pub path_from : Documents → List ℕ → Path → Option Path
+path_from documents pointer root = option_and_then
+    (λ d. option_map (λ below. root ++ below) (path_of_pointer d pointer)) (value_in documents root)
+
+-- a pointer is empty, or begins with `/`
+abbrev pub is_pointer : List ℕ → Bool
+is_pointer [] = true
+is_pointer (c ∷ fragment) = c == byte "/"
+
+-- what a pointer names, from what a URI and a plain name identify on
+abbrev pub path_in : Documents → List Identifier → List ℕ → List ℕ → List ℕ → Option Path
+path_in documents ids uri anchor pointer =
+    option_and_then (path_from documents pointer) (identified uri anchor ids)
+
+-- A fragment, decoded, is a pointer from the root of the resource of a URI, or a plain name.
+abbrev pub path_of_fragment : Documents → List Identifier → List ℕ → List ℕ → Option Path
+path_of_fragment documents ids uri fragment = if is_pointer fragment
+    then path_in documents ids uri [] fragment else path_in documents ids uri fragment []
+
+abbrev pub path_of_uri : Documents → List Identifier → List ℕ → Option (List ℕ) → Option Path
+path_of_uri documents ids uri fragment =
+    option_and_then (path_of_fragment documents ids uri) (decoded (unwrap_or fragment []))
+
+-- what a reference in the schema at a path names
+abbrev pub path_of_reference : Draft → Documents → Path → List ℕ → Option Path
+path_of_reference draft documents path text = path_of_uri documents (all_identifiers draft documents)
+    (resolved (base_among draft documents path) (without_fragment text)) (fragment_of text)
 
 -- a schema is an object or a boolean (Core 2020-12, section 4.3)
 abbrev pub is_schema : Data → Bool
@@ -70,8 +99,8 @@ is_schema (object ms) = true
 abbrev pub if_schema : Path → Data → Option Path
 if_schema path d = if is_schema d then Some path else None
 
--- the path to the schema to which a reference leads
-abbrev pub schema_referred : Data → List ℕ → Option Path
-schema_referred document text = option_and_then
-    (λ path. option_and_then (if_schema path) (value_at path document))
-    (path_of_reference document text)
+-- the path to the schema to which a reference in the schema at a path leads
+abbrev pub schema_referred : Draft → Documents → Path → List ℕ → Option Path
+schema_referred draft documents path text = option_and_then
+    (λ found. option_and_then (if_schema found) (value_in documents found))
+    (path_of_reference draft documents path text)

@@ -2,13 +2,13 @@
 use Rattle.std.specs.Prelude.{◌≡◌, ℕ, zero, suc, List, [], ◌∷◌, ◌++◌, map, Bool, true, false, not, ◌&&◌, ◌||◌}
 use Rattle.std.specs.Prelude.{Option, Some, None, length, slice_get, if◌then◌else◌}
 use Rattle.std.specs.List.{AllByRecursion, list_all}
-use Rattle.serde_json.specs.Data.{Data}
 use Rattle.strkw_keywords.specs.Object.{Settings}
 use Rattle.neldrafi_schema.specs.Paths.{Path, key, location_of, StandsBefore}
 use Rattle.neldrafi_schema.specs.Schemas.{Reason, wrong_type, circular_reference}
 use Rattle.neldrafi_schema.specs.Schemas.{Rule, reference, all_of, dependent, negation, any_of, one_of}
 use Rattle.neldrafi_schema.specs.Schemas.{where_valid, where_not_valid, condition, Branch, Keyword, rule, malformed}
 use Rattle.neldrafi_schema.specs.Schemas.{Body, always, never, keywords, neither, Schema}
+use Rattle.neldrafi_schema.specs.Documents.{Documents, uri_at}
 use Rattle.neldrafi_schema.specs.Drafts.{reference_name}
 use Rattle.neldrafi_schema.specs.Reading.{Says}
 
@@ -119,16 +119,17 @@ pub record IsFirst (all : List Problem) (p : Problem) : Type 0 where
   pub among : all ≡ before ++ p ∷ behind
   pub first : AllByRecursion (λ q. StandsBefore q.0 p.0 → ⊥) all
 
--- the document says these schemas, none of which is refused
-pub record IsSaid (s : Settings) (document : Data) (schemas : List Schema) : Type 0 where
-  pub says : Says s document schemas
+-- the documents say these schemas, none of which is refused
+pub record IsSaid (s : Settings) (documents : Documents) (schemas : List Schema) : Type 0 where
+  pub says : Says s documents schemas
   pub sound : refused says.paths schemas ≡ []
 
--- the document is refused for this reason, at this location
-pub record IsRefused (s : Settings) (document : Data) (why : Reason) (location : List ℕ)
-    : Type 0 where
+-- they are refused for this reason, at this location of the document of this URI
+pub record IsRefused (s : Settings) (documents : Documents) (why : Reason)
+    (uri location : List ℕ) : Type 0 where
   pub schemas : List Schema
-  pub says : Says s document schemas
+  pub says : Says s documents schemas
   pub path : Path
   pub first : IsFirst (refused says.paths schemas) (path, why)
+  pub within : uri ≡ uri_at documents path
   pub stands : location ≡ location_of path

@@ -5,7 +5,7 @@ use Rattle.std.specs.Prelude.{◌||◌, Option, Some, None, if◌then◌else◌,
 use Rattle.std.specs.Prelude.{length, nat_le, option_and_then, take, drop}
 use Rattle.std.specs.List.{flat_map, filter, list_all, list_any}
 use Rattle.std.specs.Str.{bytes_eq, chars}
-use Rattle.serde_json.specs.Data.{Data, Num, null, boolean, number, string, array, object}
+use Rattle.serde_json.specs.Data.{Data, Num, number, string, array, object}
 use Rattle.serde_json.specs.Data.{Items, no_items, item, Members, no_members, member}
 use Rattle.serde_json.specs.Find.{get, get_member, as_array}
 use Rattle.strkw_pattern.specs.declared.engine.Outcome.{Outcome}

@@ -1,8 +1,8 @@
 -- The values that keywords take, and what each comes to before its schemas are numbered. Sections are
 -- those of draft 7: Core, and Validation (6.x).
-use Rattle.std.specs.Prelude.{ℕ, zero, suc, List, [], ◌∷◌, ◌++◌, Bool, true, false, not, ◌&&◌, ◌||◌, Option}
+use Rattle.std.specs.Prelude.{ℕ, suc, List, [], ◌∷◌, ◌++◌, Bool, true, false, not, ◌&&◌, ◌||◌, Option}
 use Rattle.std.specs.Prelude.{Some, None, codes, if◌then◌else◌, option_and_then, option_map, is_some, unwrap_or}
-use Rattle.serde_json.specs.Data.{Data, Num, null, boolean, number, string, array, object}
+use Rattle.serde_json.specs.Data.{Data, Num, array}
 use Rattle.serde_json.specs.Data.{Items, no_items, item, Members, no_members, member}
 use Rattle.serde_json.specs.Find.{as_array, as_bool, as_number, as_object, as_str, get_member}
 use Rattle.strkw_report.specs.declared.draft.Draft.{Draft}
@@ -16,8 +16,8 @@ use Rattle.neldrafi_schema.specs.Types.{type_named}
 use Rattle.neldrafi_schema.specs.Numbers.{if_positive, size_in}
 use Rattle.neldrafi_schema.specs.Rules.{item_list}
 use Rattle.neldrafi_schema.specs.Paths.{Path, Segment, key, place}
-use Rattle.neldrafi_schema.specs.References.{schema_referred}
-use Rattle.neldrafi_schema.specs.Drafts.{draft_named, has_keyword, has_unevaluated, is_draft_4}
+use Rattle.neldrafi_uri.specs.Components.{fragment_of}
+use Rattle.neldrafi_schema.specs.Drafts.{draft_named, has_keyword, has_unevaluated, is_anchor, is_draft_4}
 use Rattle.neldrafi_schema.specs.Schemas.{Reason, wrong_type, unresolved_reference, unknown_dialect}
 use Rattle.neldrafi_schema.specs.Schemas.{Dependency, Rule, types, among, equal_to, limited, multiple_of}
 use Rattle.neldrafi_schema.specs.Schemas.{sized, distinct, required, reference, all_of, dependent}
@@ -174,9 +174,26 @@ limit_sense draft ms l d = if is_draft_4 draft then draft_4_sense ms l d else nu
 abbrev pub dialect_sense : List ℕ → Sense
 dialect_sense text = if is_some (draft_named text) then nothing else refused unknown_dialect
 
+abbrev pub has_some : Option (List ℕ) → Bool
+has_some (Some (c ∷ cs)) = true
+has_some other = false
+
+-- From 2019-09 on `$id` has no fragment, or an empty one (2020-12, Core, section 8.2.1).
+abbrev pub identifier_sense : Draft → List ℕ → Sense
+identifier_sense draft text = if has_keyword draft known.Anchor && has_some (fragment_of text)
+    then refused wrong_type else nothing
+
+-- (2020-12, Core, section 8.2.2; 2019-09, section 8.2.3)
+abbrev pub anchor_sense : Draft → List ℕ → Sense
+anchor_sense draft text = if is_anchor draft text then nothing else refused wrong_type
+
 abbrev pub target_sense : Option Path → Sense
 target_sense (Some path) = says reference (lead_to path)
 target_sense None = refused unresolved_reference
+
+-- `$ref`, by the path to which each reference leads
+abbrev pub reference_sense : (List ℕ → Option Path) → Data → Sense
+reference_sense referred d = of_kind (λ text. target_sense (referred text)) (as_str d)
 
 abbrev pub distinct_sense : Bool → Sense
 distinct_sense b = if b then says distinct [] else nothing
@@ -221,47 +238,48 @@ is_condition draft ms = has_unevaluated draft
 abbrev pub if_rule : Draft → Members → Rule
 if_rule draft ms = if is_condition draft ms then condition else held
 
--- What the value of a keyword comes to that is neither a string keyword nor `patternProperties`: it
--- stands at `at`, in the object ms at a path of the document.
-abbrev pub sense : Draft → Data → Members → Path → Path → Known → Data → Sense
-sense draft document ms path at known.Dialect d = of_kind dialect_sense (as_str d)
-sense draft document ms path at known.Reference d =
-    of_kind (λ text. target_sense (schema_referred document text)) (as_str d)
-sense draft document ms path at known.Types d =
+-- What the value of a keyword means, unless it is a string keyword, `patternProperties` or a
+-- reference: it is at `at`, in the object ms at a path of the document.
+abbrev pub sense : Draft → Members → Path → Path → Known → Data → Sense
+sense draft ms path at known.Dialect d = of_kind dialect_sense (as_str d)
+sense draft ms path at known.Draft4Identifier d = of_kind (identifier_sense draft) (as_str d)
+sense draft ms path at known.Identifier d = of_kind (identifier_sense draft) (as_str d)
+sense draft ms path at known.Anchor d = of_kind (anchor_sense draft) (as_str d)
+sense draft ms path at known.Types d =
     of_kind (λ ts. says (types (not (is_draft_4 draft)) ts) []) (types_in d)
-sense draft document ms path at known.Enumeration d =
+sense draft ms path at known.Enumeration d =
     of_kind (λ ds. says (among ds) []) (values_in draft d)
-sense draft document ms path at known.Constant d = says (equal_to d) []
-sense draft document ms path at known.MultipleOf d =
+sense draft ms path at known.Constant d = says (equal_to d) []
+sense draft ms path at known.MultipleOf d =
     of_kind (λ x. says (multiple_of x) []) (positive_in d)
-sense draft document ms path at (known.Limited l) d = limit_sense draft ms l d
-sense draft document ms path at (known.Sized s) d = of_kind (λ n. says (sized s n) []) (size_in d)
-sense draft document ms path at known.UniqueItems d = of_kind distinct_sense (as_bool d)
-sense draft document ms path at known.Required d =
+sense draft ms path at (known.Limited l) d = limit_sense draft ms l d
+sense draft ms path at (known.Sized s) d = of_kind (λ n. says (sized s n) []) (size_in d)
+sense draft ms path at known.UniqueItems d = of_kind distinct_sense (as_bool d)
+sense draft ms path at known.Required d =
     of_kind (λ names. says (required names) []) (names_in draft d)
-sense draft document ms path at known.Dependencies d =
+sense draft ms path at known.Dependencies d =
     of_kind (dependencies_sense draft at) (as_object d)
-sense draft document ms path at known.Properties d = map_sense properties at (as_object d)
-sense draft document ms path at known.AdditionalProperties d =
+sense draft ms path at known.Properties d = map_sense properties at (as_object d)
+sense draft ms path at known.AdditionalProperties d =
     others_sense draft no_other_members other_members at (as_bool d)
-sense draft document ms path at known.PropertyNames d = says member_names (lead_to at)
-sense draft document ms path at known.DependentRequired d =
+sense draft ms path at known.PropertyNames d = says member_names (lead_to at)
+sense draft ms path at known.DependentRequired d =
     of_kind (λ ds. says (dependent ds) []) (option_and_then (dependent_names draft) (as_object d))
-sense draft document ms path at known.DependentSchemas d = map_sense (dependent []) at (as_object d)
-sense draft document ms path at known.PrefixItems d = list_sense placed at (as_array d)
-sense draft document ms path at known.Items d = items_sense draft at (as_array d)
-sense draft document ms path at known.AdditionalItems d = additional_sense draft ms at d
-sense draft document ms path at known.Contains d = says (contains_rule draft ms) (lead_to at)
-sense draft document ms path at known.ContainsCount d = of_kind (λ n. nothing) (size_in d)
-sense draft document ms path at known.AllOf d = list_sense all_of at (as_array d)
-sense draft document ms path at known.AnyOf d = list_sense any_of at (as_array d)
-sense draft document ms path at known.OneOf d = list_sense one_of at (as_array d)
-sense draft document ms path at known.Not d = says (negation d) (lead_to at)
-sense draft document ms path at (known.Unevaluated p) d =
+sense draft ms path at known.DependentSchemas d = map_sense (dependent []) at (as_object d)
+sense draft ms path at known.PrefixItems d = list_sense placed at (as_array d)
+sense draft ms path at known.Items d = items_sense draft at (as_array d)
+sense draft ms path at known.AdditionalItems d = additional_sense draft ms at d
+sense draft ms path at known.Contains d = says (contains_rule draft ms) (lead_to at)
+sense draft ms path at known.ContainsCount d = of_kind (λ n. nothing) (size_in d)
+sense draft ms path at known.AllOf d = list_sense all_of at (as_array d)
+sense draft ms path at known.AnyOf d = list_sense any_of at (as_array d)
+sense draft ms path at known.OneOf d = list_sense one_of at (as_array d)
+sense draft ms path at known.Not d = says (negation d) (lead_to at)
+sense draft ms path at (known.Unevaluated p) d =
     others_sense draft (unevaluated p) (unevaluated p) at (as_bool d)
-sense draft document ms path at known.If d = says (if_rule draft ms) (lead_to at)
-sense draft document ms path at known.Then d = branch_sense where_valid ms path at
-sense draft document ms path at known.Else d = branch_sense where_not_valid ms path at
-sense draft document ms path at known.Definitions d = map_sense held at (as_object d)
-sense draft document ms path at known.Defs d = map_sense held at (as_object d)
-sense draft document ms path at other d = nothing
+sense draft ms path at known.If d = says (if_rule draft ms) (lead_to at)
+sense draft ms path at known.Then d = branch_sense where_valid ms path at
+sense draft ms path at known.Else d = branch_sense where_not_valid ms path at
+sense draft ms path at known.Definitions d = map_sense held at (as_object d)
+sense draft ms path at known.Defs d = map_sense held at (as_object d)
+sense draft ms path at other d = nothing

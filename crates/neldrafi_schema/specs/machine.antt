@@ -5,6 +5,7 @@ pub mod Closures
 pub mod Found
 pub mod Left
 pub mod Places
+pub mod Identifiers
 pub mod Problems
 pub mod Said
 pub mod Words

@@ -1,10 +1,10 @@
 //! What the values of keywords without schemas come to.
 
 ghost use Rattle.std.specs.Prelude.{◌≡◌, ℕ, IfOk, List, length, map, option_and_then, option_map, string_bytes, true};
-ghost use Rattle.serde_json.specs.Data.{Data};
 ghost use Rattle.serde_json.specs.Find.{as_bool, as_object, as_str};
 ghost use Rattle.serde_json.specs.View.{items_view, members_view, number_view, view};
 ghost use Rattle.strkw_pattern.specs.declared.engine.Outcome.{Outcome};
+ghost use Rattle.neldrafi_schema.specs.Documents.{Documents};
 ghost use Rattle.neldrafi_schema.specs.Paths.{Path};
 ghost use Rattle.neldrafi_schema.specs.Values.{all_items, dependencies_in, dependent_names, distinct_sense, draft_4_sense, flag_sense, greatest_of, is_true_at, least_of, limit_sense, names_in, needs_values, number_sense, of_kind, positive_in, sense, type_in, types_in, values_in};
 ghost use Rattle.neldrafi_schema.specs.machine.Compiled.{dependency_of};
@@ -29,10 +29,10 @@ pub(crate) fn assertion_sense<'v, E: Drop>(
     member: &Member<'_, 'v>,
     known: Known,
 ) -> Result<Sense<'v, E>, AllocError>
-    ensures leads { (document : Data) → IfOk result (AreLeads document) }
-    ensures sense { (outcome : E → List ℕ → Outcome) (document : Data) (path at : Path)
+    ensures leads { (documents : Documents) → IfOk result (AreLeads documents) }
+    ensures sense { (outcome : E → List ℕ → Outcome) (path at : Path)
         → is_assertion known ≡ true → IfOk result (λ s. sense_of outcome s
-        ≡ sense draft document (members_view member.now.object.now.entries) path at known
+        ≡ sense draft (members_view member.now.object.now.entries) path at known
         (view member.now.value.now)) }
 {
     let value = member.value;
@@ -80,7 +80,7 @@ fn limit_sense<'v, E: Drop>(
     member: &Member<'_, 'v>,
     limit: Limit,
 ) -> Sense<'v, E>
-    ensures leads { (document : Data) → AreLeads document result }
+    ensures leads { (documents : Documents) → AreLeads documents result }
     ensures sense { (outcome : E → List ℕ → Outcome) → sense_of outcome result
         ≡ limit_sense draft (members_view member.now.object.now.entries) limit
         (view member.now.value.now) }
@@ -94,7 +94,7 @@ fn limit_sense<'v, E: Drop>(
 
 // In draft 4 a boolean beside makes a limit exclusive, and says nothing by itself.
 fn draft_4_sense<'v, E: Drop>(alloc: Global, member: &Member<'_, 'v>, limit: Limit) -> Sense<'v, E>
-    ensures leads { (document : Data) → AreLeads document result }
+    ensures leads { (documents : Documents) → AreLeads documents result }
     ensures sense { (outcome : E → List ℕ → Outcome) → sense_of outcome result
         ≡ draft_4_sense (members_view member.now.object.now.entries) limit
         (view member.now.value.now) }
@@ -129,7 +129,7 @@ fn greatest_of(object: &Map<String, Value>) -> Limit
 }
 
 fn number_sense<'v, E: Drop>(alloc: Global, limit: Limit, value: &Value) -> Sense<'v, E>
-    ensures leads { (document : Data) → AreLeads document result }
+    ensures leads { (documents : Documents) → AreLeads documents result }
     ensures sense { (outcome : E → List ℕ → Outcome) → sense_of outcome result
         ≡ number_sense limit (view value.now) }
 {
@@ -141,7 +141,7 @@ fn number_sense<'v, E: Drop>(alloc: Global, limit: Limit, value: &Value) -> Sens
 
 // A boolean that makes the limit of a name exclusive, which has to be there.
 fn flag_sense<'v, E: Drop>(name: &str, object: &Map<String, Value>, value: &Value) -> Sense<'v, E>
-    ensures leads { (document : Data) → AreLeads document result }
+    ensures leads { (documents : Documents) → AreLeads documents result }
     ensures sense { (outcome : E → List ℕ → Outcome) → sense_of outcome result
         ≡ flag_sense name.now (members_view object.now.entries) (view value.now) }
 {
@@ -169,7 +169,7 @@ fn positive_in(value: &Value) -> Option<Number>
 }
 
 fn distinct_sense<'v, E: Drop>(alloc: Global, value: &Value) -> Sense<'v, E>
-    ensures leads { (document : Data) → AreLeads document result }
+    ensures leads { (documents : Documents) → AreLeads documents result }
     ensures sense { (outcome : E → List ℕ → Outcome) → sense_of outcome result
         ≡ of_kind distinct_sense (as_bool (view value.now)) }
 {

@@ -1,23 +1,27 @@
 //! The compilation of a schema document.
 
-ghost use Rattle.std.specs.Prelude.{◌≡◌, ◌⊎◌, IfErr, IfOk};
+ghost use Rattle.std.specs.Prelude.{◌≡◌, ◌⊎◌, IfErr, IfOk, string_bytes};
 ghost use Rattle.serde_json.specs.View.{view};
 ghost use Rattle.strkw_keywords.specs.Handed.{lists_of};
+ghost use Rattle.neldrafi_schema.specs.Documents.{uri_at};
 ghost use Rattle.neldrafi_schema.specs.machine.Compiled.{schemas_of};
 ghost use Rattle.neldrafi_schema.specs.Paths.{location_of};
+ghost use Rattle.neldrafi_schema.specs.machine.Places.{documents_of};
 ghost use Rattle.neldrafi_schema.specs.machine.Problems.{problem_of, reason_of};
 ghost use Rattle.neldrafi_schema.specs.machine.Words.{AreReady};
 ghost use Rattle.neldrafi_schema.specs.Refusals.{IsRefused, IsSaid};
 ghost use Rattle.neldrafi_schema.specs.Schemas.{out_of_memory};
-ghost use Rattle.neldrafi_schema.specs.Settings.{config_settings};
+ghost use Rattle.neldrafi_schema.specs.Settings.{config_settings, documents_for};
 
 use crate::config::Config;
+use crate::documents::Documents;
 use crate::ends::{ending, note_endless_references};
 use crate::known::draft_of;
 use crate::node::Node;
 use crate::places::{Places, path_copy};
 use crate::problem::Problem;
 use crate::reading::Reader;
+use crate::references::Library;
 use crate::refusal::SchemaError;
 use serde_json::Value;
 use std::alloc::{AllocError, Global};
@@ -32,18 +36,23 @@ pub(crate) fn read_document<B: EngineBuilder>(
 ) -> Result<Vec<Node<B::Engine>>, SchemaError>
     ensures said { let s = config_settings B.takes B.outcome admits accepts is_encoding decoding
         config.now in
-        IfOk result (λ nodes. IsSaid s (view document.now)
+        IfOk result (λ nodes. IsSaid s (documents_for config.now (view document.now))
         (schemas_of B.Engine.outcome nodes.items)) }
     ensures ready { IfOk result (λ nodes. AreReady B.Engine.outcome
         (lists_of admits accepts is_encoding decoding config.now.checks) nodes.items) }
     ensures refused { let s = config_settings B.takes B.outcome admits accepts is_encoding decoding
         config.now in
         IfErr result (λ e. (reason_of e.kind ≡ out_of_memory)
-        ⊎ IsRefused s (view document.now) (reason_of e.kind) e.location) }
+        ⊎ IsRefused s (documents_for config.now (view document.now)) (reason_of e.kind)
+        (string_bytes e.uri) e.location) }
 {
-    match nodes_of(alloc, config, document) {
+    let documents = Documents {
+        schema: document,
+        further: config.documents,
+    };
+    match nodes_of(alloc, config, documents) {
         Ok(Ok(nodes)) => Ok(nodes),
-        Ok(Err(problem)) => Err(problem.refusal(alloc)),
+        Ok(Err(problem)) => Err(problem.refusal(alloc, documents)),
         Err(_) => Err(SchemaError::memory(alloc)),
     }
 }
@@ -52,25 +61,27 @@ pub(crate) fn read_document<B: EngineBuilder>(
 fn nodes_of<B: EngineBuilder>(
     alloc: Global,
     config: &Config<'_, B>,
-    document: &Value,
+    documents: Documents<'_>,
 ) -> Result<Result<Vec<Node<B::Engine>>, Problem>, AllocError>
     ensures said { let s = config_settings B.takes B.outcome admits accepts is_encoding decoding
         config.now in
-        IfOk result (λ r. IfOk r (λ nodes. IsSaid s (view document.now)
+        IfOk result (λ r. IfOk r (λ nodes. IsSaid s (documents_of documents.entry)
         (schemas_of B.Engine.outcome nodes.items))) }
     ensures ready { IfOk result (λ r. IfOk r (λ nodes. AreReady B.Engine.outcome
         (lists_of admits accepts is_encoding decoding config.now.checks) nodes.items)) }
     ensures refused { let s = config_settings B.takes B.outcome admits accepts is_encoding decoding
         config.now in
-        IfOk result (λ r. IfErr r (λ p. IsRefused s (view document.now) (problem_of p).1
+        IfOk result (λ r. IfErr r (λ p. IsRefused s (documents_of documents.entry) (problem_of p).1
+        (uri_at (documents_of documents.entry) (problem_of p).0)
         (location_of (problem_of p).0))) }
 {
-    let mut places = Places::of(alloc, document)?;
+    let draft = draft_of(config.draft.unwrap_or(Draft::Draft202012), documents.schema);
+    let library = Library::of(alloc, draft, documents)?;
+    let mut places = Places::of(alloc, documents)?;
     let reader = Reader {
         alloc,
         config,
-        draft: draft_of(config.draft.unwrap_or(Draft::Draft202012), document),
-        document,
+        library: &library,
     };
     let mut nodes = Vec::new(alloc);
     let mut first = None;

@@ -5,10 +5,18 @@ ghost use Rattle.strkw_keywords.specs.Handed.{settings_of};
 ghost use Rattle.neldrafi_schema.specs.Paths.{Path, location_of};
 ghost use Rattle.neldrafi_schema.specs.Settings.{config_settings, keyword_settings};
 
+use serde_json::Value;
 use std::alloc::{AllocError, Global};
 use strkw_keywords::{Checks, Context, Keyword, Options};
 use strkw_pattern::EngineBuilder;
 use strkw_report::{Draft, Location};
+
+/// A document to which references may lead, and the URI by which it is known, without a fragment.
+#[derive(Clone, Copy)]
+pub struct Document<'a> {
+    pub uri: &'a str,
+    pub value: &'a Value,
+}
 
 /// What a schema is compiled under.
 #[derive(Drop)]
@@ -21,13 +29,15 @@ pub struct Config<'a, B> {
     pub ignore_unknown_formats: bool,
     /// The caller's own checks.
     pub checks: Checks<'a>,
+    /// Further documents. A reference leads to no others.
+    pub documents: &'a [Document<'a>],
     /// What builds the engines of patterns that are not literal.
     pub builder: &'a B,
 }
 
 impl<'a, B> Config<'a, B> {
-    /// Draft 2020-12, formats as the draft has them, unknown ones ignored, and no checks but the built-in ones. What is
-    /// to be otherwise is set in the fields. It takes no memory.
+    /// Draft 2020-12, formats as the draft has them, unknown ones ignored, no checks but the built-in ones, and no further
+    /// documents. Its fields change this. It does not allocate.
     pub fn new(builder: &'a B) -> Config<'a, B> {
         Config {
             draft: None,
@@ -38,6 +48,7 @@ impl<'a, B> Config<'a, B> {
                 media_types: &[],
                 codecs: &[],
             },
+            documents: &[],
             builder,
         }
     }

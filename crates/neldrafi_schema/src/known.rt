@@ -1,8 +1,9 @@
 //! The keywords that are known, by name and by draft.
 
-ghost use Rattle.std.specs.Prelude.{◌≡◌, ◌++◌, codes};
+ghost use Rattle.std.specs.Prelude.{◌≡◌, ◌++◌, codes, option_map};
 ghost use Rattle.serde_json.specs.View.{members_view, view};
-ghost use Rattle.neldrafi_schema.specs.Drafts.{counts, draft_named, draft_number, draft_of, has_keyword, has_unevaluated, ignores_siblings, is_draft_4, is_uri, known_named, named, since, stays_beside_reference, until};
+ghost use Rattle.neldrafi_schema.specs.Resources.{holding};
+ghost use Rattle.neldrafi_schema.specs.Drafts.{anchor_in, begins_anchor, counts, draft_named, draft_number, draft_of, goes_on_in_anchor, has_keyword, has_lone_reference, has_unevaluated, identifier_in, ignores_siblings, is_anchor, is_draft_4, is_uri, known_named, named, since, stays_beside_reference, until};
 
 use crate::limits::{Limit, Size};
 use crate::node::Part;
@@ -15,6 +16,9 @@ use strkw_report::Draft;
 pub(crate) enum Known {
     Dialect,
     Reference,
+    Draft4Identifier,
+    Identifier,
+    Anchor,
     Types,
     Enumeration,
     Constant,
@@ -49,6 +53,16 @@ pub(crate) enum Known {
     Unknown,
 }
 
+/// How the value of a keyword has schemas.
+#[derive(Clone, Copy)]
+pub(crate) enum Holding {
+    Nothing,
+    /// It is a schema, or a list of them.
+    OneOrSeveral,
+    /// Its members are schemas.
+    ByKey,
+}
+
 impl Known {
     /// The keyword of a name among the members of a schema object.
     pub fn among(draft: Draft, object: &Map<String, Value>, name: &str) -> Known
@@ -66,8 +80,7 @@ impl Known {
     fn counts(self, draft: Draft, object: &Map<String, Value>) -> bool
         ensures { result ≡ counts draft (members_view object.now.entries) self }
     {
-        let is_ignored = ignores_siblings(draft) && member(object, "$ref").is_some();
-        self.is_of(draft) && (self.stays_beside_reference() || !is_ignored)
+        self.is_of(draft) && (self.stays_beside_reference() || !has_lone_reference(draft, object))
     }
 
     // The keyword of a name, in whichever draft.
@@ -77,6 +90,9 @@ impl Known {
         match name {
             "$schema" => Known::Dialect,
             "$ref" => Known::Reference,
+            "id" => Known::Draft4Identifier,
+            "$id" => Known::Identifier,
+            "$anchor" => Known::Anchor,
             "type" => Known::Types,
             "enum" => Known::Enumeration,
             "const" => Known::Constant,
@@ -135,9 +151,12 @@ impl Known {
         ensures { result ≡ since self }
     {
         match self {
-            Known::Constant | Known::PropertyNames | Known::Contains => Draft::Draft6,
+            Known::Identifier | Known::Constant | Known::PropertyNames | Known::Contains => {
+                Draft::Draft6
+            }
             Known::If | Known::Then | Known::Else => Draft::Draft7,
-            Known::ContainsCount
+            Known::Anchor
+            | Known::ContainsCount
             | Known::DependentRequired
             | Known::DependentSchemas
             | Known::Defs
@@ -152,9 +171,39 @@ impl Known {
         ensures { result ≡ until self }
     {
         match self {
+            Known::Draft4Identifier => Draft::Draft4,
             Known::Dependencies => Draft::Draft7,
             Known::AdditionalItems => Draft::Draft201909,
             _ => Draft::Draft202012,
+        }
+    }
+
+    /// How its value has schemas.
+    pub fn holding(self) -> Holding
+        ensures { result ≡ holding self }
+    {
+        match self {
+            Known::Properties
+            | Known::PatternProperties
+            | Known::Dependencies
+            | Known::DependentSchemas
+            | Known::Definitions
+            | Known::Defs => Holding::ByKey,
+            Known::AdditionalProperties
+            | Known::PropertyNames
+            | Known::PrefixItems
+            | Known::Items
+            | Known::AdditionalItems
+            | Known::Contains
+            | Known::AllOf
+            | Known::AnyOf
+            | Known::OneOf
+            | Known::Not
+            | Known::If
+            | Known::Then
+            | Known::Else
+            | Known::Unevaluated(_) => Holding::OneOrSeveral,
+            _ => Holding::Nothing,
         }
     }
 
@@ -190,6 +239,62 @@ fn ignores_siblings(draft: Draft) -> bool
     ensures { result ≡ ignores_siblings draft }
 {
     matches!(draft, Draft::Draft4 | Draft::Draft6 | Draft::Draft7)
+}
+
+// Whether an object has a reference beside which others are ignored.
+fn has_lone_reference(draft: Draft, object: &Map<String, Value>) -> bool
+    ensures { result ≡ has_lone_reference draft (members_view object.now.entries) }
+{
+    ignores_siblings(draft) && member(object, "$ref").is_some()
+}
+
+/// `$id` of a schema object, or `id` in draft 4.
+pub(crate) fn identifier_in(draft: Draft, object: &Map<String, Value>) -> Option<&str>
+    ensures { option_map (λ t. t.now) result
+        ≡ identifier_in draft (members_view object.now.entries) }
+{
+    if has_lone_reference(draft, object) {
+        return None;
+    }
+    let name = if is_draft_4(draft) { "id" } else { "$id" };
+    member(object, name)?.as_str()
+}
+
+/// `$anchor` of a schema object.
+pub(crate) fn anchor_in(draft: Draft, object: &Map<String, Value>) -> Option<&str>
+    ensures { option_map (λ t. t.now) result ≡ anchor_in draft (members_view object.now.entries) }
+{
+    if Known::Anchor.is_of(draft) {
+        member(object, "$anchor")?.as_str()
+    } else {
+        None
+    }
+}
+
+/// Whether `$anchor` takes a text.
+pub(crate) fn is_anchor(draft: Draft, text: &str) -> bool
+    ensures { result ≡ is_anchor draft text.now }
+{
+    match text.as_bytes() {
+        [first, others @ ..] => {
+            begins_anchor(draft, *first) && others.iter().all(|c| goes_on_in_anchor(draft, *c))
+        }
+        [] => false,
+    }
+}
+
+fn begins_anchor(draft: Draft, c: u8) -> bool
+    ensures { result ≡ begins_anchor draft c }
+{
+    c.is_ascii_alphabetic() || (c == b'_' && !matches!(draft, Draft::Draft201909))
+}
+
+fn goes_on_in_anchor(draft: Draft, c: u8) -> bool
+    ensures { result ≡ goes_on_in_anchor draft c }
+{
+    c.is_ascii_alphanumeric()
+        || matches!(c, b'-' | b'_' | b'.')
+        || (c == b':' && matches!(draft, Draft::Draft201909))
 }
 
 pub(crate) fn is_draft_4(draft: Draft) -> bool

@@ -2,9 +2,9 @@
 
 ghost use Rattle.std.specs.Prelude.{◌≡◌, ◌∷◌, IfOk, Some, [], map};
 ghost use Rattle.std.specs.List.{AllByRecursion};
-ghost use Rattle.serde_json.specs.Data.{Data, array, object as object_of};
+ghost use Rattle.serde_json.specs.Data.{array, object as object_of};
 ghost use Rattle.serde_json.specs.View.{items_view, members_view, view};
-ghost use Rattle.neldrafi_schema.specs.Paths.{value_at};
+ghost use Rattle.neldrafi_schema.specs.Documents.{Documents, value_in};
 ghost use Rattle.neldrafi_schema.specs.Values.{dependency_leads, item_leads, lead_below, lead_to, member_leads};
 ghost use Rattle.neldrafi_schema.specs.machine.Compiled.{path_of, step_of};
 ghost use Rattle.neldrafi_schema.specs.machine.Places.{IsPlace};
@@ -64,9 +64,9 @@ pub(crate) fn item_leads<'v>(
 ) -> Result<Vec<Lead<'v>>, AllocError>
     ensures paths { IfOk result (λ leads. map lead_of leads.items
         ≡ item_leads (path_of at.now) 0 (items_view items.now)) }
-    ensures there { (document : Data) → value_at (path_of at.now) document
+    ensures there { (documents : Documents) → value_in documents (path_of at.now)
         ≡ Some (array (items_view items.now))
-        → IfOk result (λ leads. AllByRecursion (λ l. IsPlace document l.place) leads.items) }
+        → IfOk result (λ leads. AllByRecursion (λ l. IsPlace documents l.place) leads.items) }
 {
     let mut leads = Vec::new(alloc);
     for item in items {
@@ -84,9 +84,9 @@ pub(crate) fn member_leads<'v>(
 ) -> Result<Vec<Lead<'v>>, AllocError>
     ensures paths { IfOk result (λ leads. map lead_of leads.items
         ≡ member_leads (path_of at.now) (members_view members.now.entries)) }
-    ensures there { (document : Data) → value_at (path_of at.now) document
+    ensures there { (documents : Documents) → value_in documents (path_of at.now)
         ≡ Some (object_of (members_view members.now.entries))
-        → IfOk result (λ leads. AllByRecursion (λ l. IsPlace document l.place) leads.items) }
+        → IfOk result (λ leads. AllByRecursion (λ l. IsPlace documents l.place) leads.items) }
 {
     let mut leads = Vec::new(alloc);
     for (name, value) in members.iter() {
@@ -103,9 +103,9 @@ pub(crate) fn dependency_leads<'v>(
 ) -> Result<Vec<Lead<'v>>, AllocError>
     ensures paths { IfOk result (λ leads. map lead_of leads.items
         ≡ dependency_leads (path_of at.now) (members_view members.now.entries)) }
-    ensures there { (document : Data) → value_at (path_of at.now) document
+    ensures there { (documents : Documents) → value_in documents (path_of at.now)
         ≡ Some (object_of (members_view members.now.entries))
-        → IfOk result (λ leads. AllByRecursion (λ l. IsPlace document l.place) leads.items) }
+        → IfOk result (λ leads. AllByRecursion (λ l. IsPlace documents l.place) leads.items) }
 {
     let mut leads = Vec::new(alloc);
     for (name, value) in members.iter() {

@@ -1,14 +1,16 @@
-//! The schemas of a document, by number: where each stands, and where references lead.
+//! The schemas of a document, by number, with their places; and what JSON pointers lead to.
 
 ghost use Rattle.std.specs.Prelude.{◌≡◌, ◌++◌, ◌∷◌, IfOk, IfSome, OnOk, [], map, option_map, string_bytes};
 ghost use Rattle.serde_json.specs.Find.{unescape};
 ghost use Rattle.serde_json.specs.View.{view};
 ghost use Rattle.neldrafi_schema.specs.Paths.{location_of};
-ghost use Rattle.neldrafi_schema.specs.References.{decoded, is_schema, path_along, path_of_pointer, path_of_reference, place_named, schema_referred, segment_at};
+ghost use Rattle.neldrafi_schema.specs.References.{decoded, is_schema, path_along, path_of_pointer, place_named, segment_at};
 ghost use Rattle.neldrafi_schema.specs.machine.Compiled.{path_of, segment_of, step_of};
-ghost use Rattle.neldrafi_schema.specs.machine.Places.{IsPlace, place_path};
+ghost use Rattle.neldrafi_schema.specs.Paths.{document};
+ghost use Rattle.neldrafi_schema.specs.machine.Places.{IsBelow, IsPlace, documents_of, place_path};
 ghost use Rattle.neldrafi_schema.specs.machine.Words.{after_tilde, begins_oddly};
 
+use crate::documents::Documents;
 use crate::segment::{Segment, Step};
 use percent_encoding::percent_decode;
 use serde_json::Value;
@@ -25,31 +27,32 @@ pub(crate) struct Place<'v> {
 /// The schemas that are found so far, by number.
 #[derive(Drop)]
 pub(crate) struct Places<'v> {
-    pub document: &'v Value,
+    pub documents: Documents<'v>,
     pub places: Vec<Place<'v>>,
 }
 
 impl<'v> Places<'v> {
     ghost use Rattle.neldrafi_schema.specs.machine.Places.{Grown, IsTable, StaysAt, paths_of};
 
-    /// The root alone.
-    pub fn of(alloc: Global, document: &'v Value) -> Result<Places<'v>, AllocError>
+    /// The root of the schema alone.
+    pub fn of(alloc: Global, documents: Documents<'v>) -> Result<Places<'v>, AllocError>
         ensures table { IfOk result IsTable }
-        ensures document { IfOk result (λ t. view t.document.now ≡ view document.now) }
-        ensures root { IfOk result (λ t. paths_of t.places.items ≡ [] ∷ []) }
+        ensures documents { IfOk result (λ t. documents_of t.documents
+            ≡ documents_of documents.entry) }
+        ensures root { IfOk result (λ t. paths_of t.places.items ≡ (document 0 ∷ []) ∷ []) }
     {
         let mut places = Vec::new(alloc);
         places.push(Place {
-            path: Vec::new(alloc),
-            value: document,
+            path: vec![in alloc; Segment::Document(0)]?,
+            value: documents.schema,
         })?;
-        Ok(Places { document, places })
+        Ok(Places { documents, places })
     }
 
     /// Numbers the value at a path.
     pub fn number(&mut self, place: Place<'v>) -> Result<usize, AllocError>
         requires table { IsTable self.old }
-        requires there { IsPlace (view self.old.document.now) place }
+        requires there { IsPlace (documents_of self.old.documents) place }
         ensures number { IfOk result (λ n.
             StaysAt (paths_of self.new.places.items) n (place_path place.entry)) }
         ensures grown { OnOk result (Grown self.old self.new) }
@@ -62,7 +65,7 @@ impl<'v> Places<'v> {
     /// The number of the value at a path, which may have been numbered before.
     pub fn number_known(&mut self, place: Place<'v>) -> Result<usize, AllocError>
         requires table { IsTable self.old }
-        requires there { IsPlace (view self.old.document.now) place }
+        requires there { IsPlace (documents_of self.old.documents) place }
         ensures number { IfOk result (λ n.
             StaysAt (paths_of self.new.places.items) n (place_path place.entry)) }
         ensures grown { OnOk result (Grown self.old self.new) }
@@ -73,18 +76,6 @@ impl<'v> Places<'v> {
             }
         }
         self.number(place)
-    }
-
-    /// The schema to which a reference leads, if it leads to one.
-    pub fn target(&self, alloc: Global, text: &str) -> Result<Option<Place<'v>>, AllocError>
-        ensures path { IfOk result (λ o. option_map place_path o
-            ≡ schema_referred (view self.now.document.now) text.now) }
-        ensures there { IfOk result (λ o. IfSome o (IsPlace (view self.now.document.now))) }
-    {
-        match place_of_reference(alloc, self.document, text)? {
-            Some(place) if is_schema(place.value) => Ok(Some(place)),
-            _ => Ok(None),
-        }
     }
 }
 
@@ -124,41 +115,22 @@ pub(crate) fn location_of(alloc: Global, path: &[Segment]) -> Result<Location, A
     Ok(location)
 }
 
-// Whether a value is an object or a boolean.
-fn is_schema(value: &Value) -> bool
+/// Whether a value is an object or a boolean.
+pub(crate) fn is_schema(value: &Value) -> bool
     ensures { result ≡ is_schema (view value.now) }
 {
     value.is_object() || value.is_boolean()
 }
 
-// What a reference names: `#` and a JSON pointer.
-fn place_of_reference<'v>(
-    alloc: Global,
-    document: &'v Value,
-    text: &str,
-) -> Result<Option<Place<'v>>, AllocError>
-    ensures path { IfOk result (λ o. option_map place_path o
-        ≡ path_of_reference (view document.now) text.now) }
-    ensures there { IfOk result (λ o. IfSome o (IsPlace (view document.now))) }
-{
-    let Some(pointer) = text.strip_prefix('#') else {
-        return Ok(None);
-    };
-    match percent_decoded(alloc, pointer)? {
-        Some(pointer) => place_of_pointer(alloc, document, pointer.as_str()),
-        None => Ok(None),
-    }
-}
-
-// What a JSON pointer leads to. Nothing stands before its first `/`.
-fn place_of_pointer<'v>(
+/// What a JSON pointer leads to. Nothing precedes its first `/`.
+pub(crate) fn place_of_pointer<'v>(
     alloc: Global,
     document: &'v Value,
     pointer: &str,
 ) -> Result<Option<Place<'v>>, AllocError>
     ensures path { IfOk result (λ o. option_map place_path o
         ≡ path_of_pointer (view document.now) pointer.now) }
-    ensures there { IfOk result (λ o. IfSome o (IsPlace (view document.now))) }
+    ensures there { IfOk result (λ o. IfSome o (IsBelow (view document.now))) }
 {
     let tokens: Vec<&str> = pointer.split('/').collect(alloc)?;
     let [first, tokens @ ..] = tokens.as_slice() else {
@@ -170,8 +142,8 @@ fn place_of_pointer<'v>(
     place_along(alloc, document, tokens)
 }
 
-// What a fragment stands for, where that is a text (RFC 6901, section 6).
-fn percent_decoded(alloc: Global, fragment: &str) -> Result<Option<String>, AllocError>
+/// What a fragment stands for, if that is UTF-8 (RFC 6901, section 6).
+pub(crate) fn percent_decoded(alloc: Global, fragment: &str) -> Result<Option<String>, AllocError>
     ensures { IfOk result (λ o. option_map string_bytes o ≡ decoded fragment.now) }
 {
     let mut bytes = Vec::new(alloc);
@@ -187,7 +159,7 @@ fn place_along<'v>(
 ) -> Result<Option<Place<'v>>, AllocError>
     ensures path { IfOk result (λ o. option_map place_path o
         ≡ path_along (map (λ t. t.now) tokens.now) (view document.now)) }
-    ensures there { IfOk result (λ o. IfSome o (IsPlace (view document.now))) }
+    ensures there { IfOk result (λ o. IfSome o (IsBelow (view document.now))) }
 {
     let mut path = Vec::new(alloc);
     let mut value = document;

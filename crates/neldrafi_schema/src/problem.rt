@@ -2,8 +2,11 @@
 
 ghost use Rattle.std.specs.Prelude.{◌↔◌, ◌≡◌, ◌⊎◌, ◌∷◌, [], IsTrue, OnOk, map, string_bytes};
 ghost use Rattle.neldrafi_schema.specs.Paths.{StandsBefore, location_of};
+ghost use Rattle.neldrafi_schema.specs.Documents.{uri_at};
 ghost use Rattle.neldrafi_schema.specs.machine.Compiled.{path_of};
+ghost use Rattle.neldrafi_schema.specs.machine.Places.{documents_of};
 
+use crate::documents::Documents;
 use crate::places::{location_of, path_copy};
 use crate::refusal::{SchemaError, SchemaErrorKind};
 use crate::segment::Segment;
@@ -42,18 +45,21 @@ impl Problem {
         Ok(())
     }
 
-    /// The refusal of a document of which this is the first problem.
-    pub fn refusal(self, alloc: Global) -> SchemaError
+    /// The refusal of documents of which this is the first problem.
+    pub fn refusal(self, alloc: Global, documents: Documents<'_>) -> SchemaError
         ensures { (reason_of result.kind ≡ out_of_memory)
             ⊎ ((reason_of result.kind ≡ (problem_of self).1)
+            × (string_bytes result.uri ≡ uri_at (documents_of documents.entry) (problem_of self).0)
             × (result.location ≡ location_of (problem_of self).0)) }
     {
-        match location_of(alloc, &self.path) {
-            Ok(location) => SchemaError {
+        let uri = String::from_str(alloc, documents.uri_at(&self.path));
+        match (uri, location_of(alloc, &self.path)) {
+            (Ok(uri), Ok(location)) => SchemaError {
                 kind: self.kind,
+                uri,
                 location,
             },
-            Err(_) => SchemaError::memory(alloc),
+            _ => SchemaError::memory(alloc),
         }
     }
 }

@@ -10,12 +10,14 @@ ghost use Rattle.strkw_keywords.specs.Keywords.{keyword_name};
 ghost use Rattle.strkw_keywords.specs.Meanings.{Lists};
 ghost use Rattle.strkw_keywords.specs.Values.{AreValuesOf};
 ghost use Rattle.neldrafi_schema.specs.Drafts.{known_named};
-ghost use Rattle.neldrafi_schema.specs.Paths.{Path, key, location_of as location_text, value_at};
+ghost use Rattle.neldrafi_schema.specs.Documents.{value_in};
+ghost use Rattle.neldrafi_schema.specs.Paths.{Path, key, location_of as location_text};
 ghost use Rattle.neldrafi_schema.specs.Reading.{AreNumbered, BodySays, KnownSays, PatternPropertiesSay, PatternsAre, SenseSays, TextSays, handed};
 ghost use Rattle.neldrafi_schema.specs.Settings.{config_settings, keyword_settings};
 ghost use Rattle.neldrafi_schema.specs.machine.Compiled.{branches_of, path_of};
+ghost use Rattle.neldrafi_schema.specs.machine.Identifiers.{IsLibraryOf};
 ghost use Rattle.neldrafi_schema.specs.machine.Leads.{AreLeads, IsThere, boolean_of};
-ghost use Rattle.neldrafi_schema.specs.machine.Places.{Extends, Grown, IsPlace, IsTable, StaysAt, paths_of, place_path};
+ghost use Rattle.neldrafi_schema.specs.machine.Places.{documents_of, Extends, Grown, IsPlace, IsTable, StaysAt, paths_of, place_path};
 ghost use Rattle.neldrafi_schema.specs.machine.Said.{Always, ArePatternsReady, IsReadReady, IsSaidReady, IsSenseReady, Reads, is_out_of_memory, lead_of, patterns_of, read_keywords, said_keywords, sense_of};
 
 use crate::config::Config;
@@ -25,9 +27,10 @@ use crate::node::{Body, Branch, Keyword, Node, Rule, Ruled};
 use crate::numbers::size_in;
 use crate::places::{Place, Places, location_of, path_below};
 use crate::problem::Problem;
+use crate::references::Library;
 use crate::refusal::SchemaErrorKind;
 use crate::segment::{Segment, Step};
-use crate::senses::{Member, Sense, sense_of};
+use crate::senses::{Member, Sense, reference_sense, sense_of};
 use serde_json::{Map, Value};
 use std::alloc::{AllocError, Global};
 use strkw_keywords::laws::compiled_is_in_use;
@@ -40,8 +43,7 @@ use strkw_report::{CompileError, CompileErrorKind, Draft};
 pub(crate) struct Reader<'r, 'c, 'v, B> {
     pub alloc: Global,
     pub config: &'r Config<'c, B>,
-    pub draft: Draft,
-    pub document: &'v Value,
+    pub library: &'r Library<'v>,
 }
 
 // What a member of a schema object comes to.
@@ -73,13 +75,14 @@ impl<'v, B: EngineBuilder> Reader<'_, '_, 'v, B> {
         places: &mut Places<'v>,
         first: &mut Option<Problem>,
     ) -> Result<Node<B::Engine>, AllocError>
+        requires library { IsLibraryOf self.now.library.now places.old }
         requires table { IsTable places.old }
-        requires there { value_at (path_of path.now) (view places.old.document.now)
+        requires there { value_in (documents_of places.old.documents) (path_of path.now)
             ≡ Some (view value.now) }
         ensures read { let s = record (config_settings B.takes B.outcome admits accepts is_encoding
-            decoding self.now.config.now) { draft = self.now.draft } in
+            decoding self.now.config.now) { draft = self.now.library.now.draft } in
             IfOk result (λ node. Reads B.Engine.outcome s.lists (λ numbered body.
-            BodySays numbered s (view places.old.document.now) (path_of path.now) (view value.now)
+            BodySays numbered s (documents_of places.old.documents) (path_of path.now) (view value.now)
             body) (path_of path.now) (paths_of places.new.places.items) first.old first.new
             node.body) }
         ensures location { IfOk result (λ node. node.location ≡ location_text (path_of path.now)) }
@@ -98,19 +101,20 @@ impl<'v, B: EngineBuilder> Reader<'_, '_, 'v, B> {
         places: &mut Places<'v>,
         first: &mut Option<Problem>,
     ) -> Result<Body<B::Engine>, AllocError>
+        requires library { IsLibraryOf self.now.library.now places.old }
         requires table { IsTable places.old }
-        requires there { value_at (path_of path.now) (view places.old.document.now)
+        requires there { value_in (documents_of places.old.documents) (path_of path.now)
             ≡ Some (view value.now) }
         ensures read { let s = record (config_settings B.takes B.outcome admits accepts is_encoding
-            decoding self.now.config.now) { draft = self.now.draft } in
+            decoding self.now.config.now) { draft = self.now.library.now.draft } in
             IfOk result (λ body. Reads B.Engine.outcome s.lists (λ numbered said.
-            BodySays numbered s (view places.old.document.now) (path_of path.now) (view value.now)
+            BodySays numbered s (documents_of places.old.documents) (path_of path.now) (view value.now)
             said) (path_of path.now) (paths_of places.new.places.items) first.old first.new body) }
         ensures grown { OnOk result (Grown places.old places.new) }
     {
         match value.as_object() {
             Some(object) => self.read_members(path, object, places, first),
-            None => match boolean_of(self.draft, value) {
+            None => match boolean_of(self.library.draft, value) {
                 Some(true) => Ok(Body::Always),
                 Some(false) => Ok(Body::Never),
                 None => {
@@ -129,14 +133,15 @@ impl<'v, B: EngineBuilder> Reader<'_, '_, 'v, B> {
         places: &mut Places<'v>,
         first: &mut Option<Problem>,
     ) -> Result<Body<B::Engine>, AllocError>
+        requires library { IsLibraryOf self.now.library.now places.old }
         requires table { IsTable places.old }
-        requires there { value_at (path_of path.now) (view places.old.document.now)
+        requires there { value_in (documents_of places.old.documents) (path_of path.now)
             ≡ Some (object_of (members_view object.now.entries)) }
         ensures read { let s = record (config_settings B.takes B.outcome admits accepts is_encoding
-            decoding self.now.config.now) { draft = self.now.draft } in
+            decoding self.now.config.now) { draft = self.now.library.now.draft } in
             let ms = members_view object.now.entries in
             IfOk result (λ body. Reads B.Engine.outcome s.lists (λ numbered body. BodySays numbered
-            s (view places.old.document.now) (path_of path.now) (object_of ms) body)
+            s (documents_of places.old.documents) (path_of path.now) (object_of ms) body)
             (path_of path.now) (paths_of places.new.places.items) first.old first.new body) }
         ensures grown { OnOk result (Grown places.old places.new) }
     {
@@ -170,15 +175,16 @@ impl<'v, B: EngineBuilder> Reader<'_, '_, 'v, B> {
         member: &Member<'_, 'v>,
         places: &mut Places<'v>,
     ) -> Result<Said<B::Engine>, AllocError>
+        requires library { IsLibraryOf self.now.library.now places.old }
         requires table { IsTable places.old }
         requires at { path_of member.now.at.now
             ≡ path_of member.now.path.now ++ key member.now.name.now ∷ [] }
-        requires there { IsThere (view places.old.document.now) member.now }
+        requires there { IsThere (documents_of places.old.documents) member.now }
         ensures says { let s = record (config_settings B.takes B.outcome admits accepts is_encoding
-            decoding self.now.config.now) { draft = self.now.draft } in
+            decoding self.now.config.now) { draft = self.now.library.now.draft } in
             let ms = members_view member.now.object.now.entries in
             IfOk result (λ said. Always (paths_of places.new.places.items) (λ numbered.
-            KnownSays numbered s (view places.old.document.now) (path_of member.now.path.now) ms
+            KnownSays numbered s (documents_of places.old.documents) (path_of member.now.path.now) ms
             member.now.name.now (known_named s.draft ms member.now.name.now)
             (view member.now.value.now)
             (said_keywords B.Engine.outcome member.now.name.now said))) }
@@ -187,11 +193,15 @@ impl<'v, B: EngineBuilder> Reader<'_, '_, 'v, B> {
             (paths_of places.new.places.items)) }
         ensures grown { OnOk result (Grown places.old places.new) }
     {
-        match Known::among(self.draft, member.object, member.name) {
+        match Known::among(self.library.draft, member.object, member.name) {
             Known::Text(keyword) => self.read_text(member, keyword),
             Known::PatternProperties => self.read_patterns(member, places),
+            Known::Reference => {
+                let sense = reference_sense(self.alloc, self.library, member.path, member.value)?;
+                self.numbered(member.name, sense, places)
+            }
             known => {
-                let sense = sense_of(self.alloc, self.draft, places, member, known)?;
+                let sense = sense_of(self.alloc, self.library.draft, member, known)?;
                 self.numbered(member.name, sense, places)
             }
         }
@@ -205,7 +215,7 @@ impl<'v, B: EngineBuilder> Reader<'_, '_, 'v, B> {
         places: &mut Places<'v>,
     ) -> Result<Said<B::Engine>, AllocError>
         requires table { IsTable places.old }
-        requires leads { AreLeads (view places.old.document.now) sense }
+        requires leads { AreLeads (documents_of places.old.documents) sense }
         ensures says { IfOk result (λ said. Always (paths_of places.new.places.items) (λ numbered.
             SenseSays numbered name.now (sense_of B.Engine.outcome sense.entry)
             (said_keywords B.Engine.outcome name.now said))) }
@@ -236,9 +246,9 @@ impl<'v, B: EngineBuilder> Reader<'_, '_, 'v, B> {
         requires table { IsTable places.old }
         requires at { path_of member.now.at.now
             ≡ path_of member.now.path.now ++ key member.now.name.now ∷ [] }
-        requires there { IsThere (view places.old.document.now) member.now }
+        requires there { IsThere (documents_of places.old.documents) member.now }
         ensures says { let s = record (config_settings B.takes B.outcome admits accepts is_encoding
-            decoding self.now.config.now) { draft = self.now.draft } in
+            decoding self.now.config.now) { draft = self.now.library.now.draft } in
             IfOk result (λ said. Always (paths_of places.new.places.items) (λ numbered.
             PatternPropertiesSay numbered s (path_of member.now.path.now) member.now.name.now
             (as_object (view member.now.value.now))
@@ -270,7 +280,7 @@ impl<'v, B: EngineBuilder> Reader<'_, '_, 'v, B> {
         members: &Map<String, Value>,
     ) -> Result<Result<Vec<Validator<B::Engine>>, RefusedPattern>, AllocError>
         ensures are { let s = record (config_settings B.takes B.outcome admits accepts is_encoding
-            decoding self.now.config.now) { draft = self.now.draft } in
+            decoding self.now.config.now) { draft = self.now.library.now.draft } in
             (name : List ℕ) → IfOk result (λ r. PatternsAre s (path_of path.now) name
             (members_view members.now.entries) (patterns_of B.Engine.outcome name r)) }
         ensures ready { IfOk result (ArePatternsReady B.Engine.outcome
@@ -298,7 +308,7 @@ impl<'v, B: EngineBuilder> Reader<'_, '_, 'v, B> {
         keyword: TextKeyword,
     ) -> Result<Said<B::Engine>, AllocError>
         ensures says { let s = record (config_settings B.takes B.outcome admits accepts is_encoding
-            decoding self.now.config.now) { draft = self.now.draft } in
+            decoding self.now.config.now) { draft = self.now.library.now.draft } in
             IfOk result (λ said. TextSays
             (keyword_settings s (path_of member.now.path.now) keyword)
             (key member.now.name.now ∷ []) keyword (view member.now.value.now)
@@ -320,7 +330,7 @@ impl<'v, B: EngineBuilder> Reader<'_, '_, 'v, B> {
         keyword: TextKeyword,
     ) -> Result<ReadText<B::Engine>, AllocError>
         ensures says { let s = record (config_settings B.takes B.outcome admits accepts is_encoding
-            decoding self.now.config.now) { draft = self.now.draft } in
+            decoding self.now.config.now) { draft = self.now.library.now.draft } in
             (at : Path) → IfOk result (λ found. TextSays
             (keyword_settings s (path_of member.now.path.now) keyword) at keyword
             (view member.now.value.now) (read_keywords B.Engine.outcome at found)) }
@@ -341,7 +351,7 @@ impl<'v, B: EngineBuilder> Reader<'_, '_, 'v, B> {
         keyword: TextKeyword,
     ) -> Result<ReadText<B::Engine>, AllocError>
         ensures says { let s = record (config_settings B.takes B.outcome admits accepts is_encoding
-            decoding self.now.config.now) { draft = self.now.draft } in
+            decoding self.now.config.now) { draft = self.now.library.now.draft } in
             (at : Path) (d : Data) → view value.now ≡ handed keyword d
             → IfOk result (λ found. TextSays (keyword_settings s (path_of path.now) keyword) at
             keyword d (read_keywords B.Engine.outcome at found)) }
@@ -350,7 +360,7 @@ impl<'v, B: EngineBuilder> Reader<'_, '_, 'v, B> {
     {
         compiled_is_in_use();
         let location = location_of(self.alloc, path)?;
-        let ctx = self.config.context(self.draft, &location, keyword)?;
+        let ctx = self.config.context(self.library.draft, &location, keyword)?;
         let found = compile_among(self.alloc, &ctx, &values_of(value, keyword), keyword);
         if is_out_of_memory(&found) {
             return Err(AllocError);
@@ -422,7 +432,7 @@ fn number_of<'v>(
     places: &mut Places<'v>,
 ) -> Result<usize, AllocError>
     requires table { IsTable places.old }
-    requires there { IsPlace (view places.old.document.now) place }
+    requires there { IsPlace (documents_of places.old.documents) place }
     ensures number { IfOk result (λ n.
         StaysAt (paths_of places.new.places.items) n (place_path place.entry)) }
     ensures grown { OnOk result (Grown places.old places.new) }
@@ -441,7 +451,7 @@ fn branches_of<'v>(
     places: &mut Places<'v>,
 ) -> Result<Vec<Branch>, AllocError>
     requires table { IsTable places.old }
-    requires there { AllByRecursion (λ l. IsPlace (view places.old.document.now) l.place)
+    requires there { AllByRecursion (λ l. IsPlace (documents_of places.old.documents) l.place)
         leads.items }
     ensures numbered { IfOk result (λ bs. Always (paths_of places.new.places.items) (λ numbered.
         AreNumbered numbered (map lead_of leads.entry.items) (branches_of bs.items))) }

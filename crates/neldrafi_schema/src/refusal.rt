@@ -29,40 +29,44 @@ pub enum SchemaErrorKind {
 pub struct SchemaError {
     /// Why it is refused.
     pub kind: SchemaErrorKind,
-    /// The place of the value that is refused, or the root where it is out of memory.
+    /// The URI of the document that has the refused value, which is empty for the schema itself.
+    pub uri: String,
+    /// The location of the refused value in this document, as a JSON pointer; the root if out of memory.
     pub location: Location,
 }
 
 impl SchemaError {
-    // Out of memory, which stands at the root.
+    // Out of memory, at the root.
     pub(crate) fn memory(alloc: Global) -> SchemaError
         ensures { result.kind ≡ SchemaErrorKind.Memory }
     {
         SchemaError {
             kind: SchemaErrorKind::Memory,
+            uri: String::new(alloc),
             location: Location::root(alloc),
         }
     }
 
-    /// What is refused, and where, as a JSON pointer behind `#`. It is refused only where it is out of memory.
+    /// Why and where: the document's URI, `#` and the JSON pointer, and the reason. It fails only if out of memory.
     pub fn text(&self, alloc: Global) -> Result<String, AllocError>
         ensures { IfOk result (λ s. prints_float (reason_of self.now.kind) ≡ false
-            → string_bytes s ≡ refusal_text (reason_of self.now.kind) self.now.location) }
+            → string_bytes s ≡ refusal_text (reason_of self.now.kind) (string_bytes self.now.uri)
+            self.now.location) }
     {
         let why = self.kind.text(alloc)?;
         match &self.kind {
             SchemaErrorKind::Memory => Ok(why),
-            _ => placed(alloc, self.location.as_str(), &why),
+            _ => placed(alloc, &self.uri, self.location.as_str(), &why),
         }
     }
 }
 
 // What is said of a place.
-fn placed(alloc: Global, location: &str, text: &str) -> Result<String, AllocError>
+fn placed(alloc: Global, uri: &str, location: &str, text: &str) -> Result<String, AllocError>
     ensures { IfOk result (λ s. string_bytes s
-        ≡ codes "at #" ++ location.now ++ codes ": " ++ text.now) }
+        ≡ codes "at " ++ uri.now ++ codes "#" ++ location.now ++ codes ": " ++ text.now) }
 {
-    format!(in alloc; "at #{location}: {text}")
+    format!(in alloc; "at {uri}#{location}: {text}")
 }
 
 impl SchemaErrorKind {
@@ -76,7 +80,10 @@ impl SchemaErrorKind {
                 "the value is not of the kind required here",
             ),
             SchemaErrorKind::UnresolvedReference => {
-                String::from_str(alloc, "the reference leads to no schema of the document")
+                String::from_str(
+                    alloc,
+                    "the reference leads to no schema of the given documents",
+                )
             }
             SchemaErrorKind::CircularReference => String::from_str(
                 alloc,

@@ -1,6 +1,6 @@
 //! A compiled schema, and its three calls on an instance.
 
-ghost use Rattle.std.specs.Prelude.{◌↔◌, ◌≡◌, ◌⊎◌, ◌++◌, ◌∷◌, ℕ, IfErr, IfOk, IsTrue, List, OnErr, OnOk, []};
+ghost use Rattle.std.specs.Prelude.{◌↔◌, ◌≡◌, ◌⊎◌, ◌++◌, ◌∷◌, ℕ, IfErr, IfOk, IsTrue, List, OnErr, OnOk, [], string_bytes};
 ghost use Rattle.serde_json.specs.View.{view};
 ghost use Rattle.strkw_keywords.specs.Handed.{lists_of};
 ghost use Rattle.neldrafi_schema.specs.Errors.{Error};
@@ -12,7 +12,7 @@ ghost use Rattle.neldrafi_schema.specs.machine.Ready.{RestsOn};
 ghost use Rattle.neldrafi_schema.specs.machine.Words.{IsCompiled, lists_in, schemas_in};
 ghost use Rattle.neldrafi_schema.specs.Refusals.{IsRefused, IsSaid};
 ghost use Rattle.neldrafi_schema.specs.Schemas.{out_of_memory};
-ghost use Rattle.neldrafi_schema.specs.Settings.{config_settings};
+ghost use Rattle.neldrafi_schema.specs.Settings.{config_settings, documents_for};
 
 use crate::collecting::{Collector, Visit};
 use crate::compile::read_document;
@@ -47,7 +47,7 @@ impl<'a, E: RegexEngine> Schema<'a, E> {
     ) -> Result<Schema<'a, E>, SchemaError>
         ensures said { let s = config_settings B.takes B.outcome admits accepts is_encoding decoding
             config.now in
-            IfOk result (λ schema. IsSaid s (view document.now)
+            IfOk result (λ schema. IsSaid s (documents_for config.now (view document.now))
             (schemas_in E.outcome schema)) }
         ensures ready { IfOk result (λ schema. IsCompiled E.outcome
             (lists_in admits accepts is_encoding decoding schema) schema) }
@@ -57,7 +57,8 @@ impl<'a, E: RegexEngine> Schema<'a, E> {
         ensures refused { let s = config_settings B.takes B.outcome admits accepts is_encoding
             decoding config.now in
             IfErr result (λ e. (reason_of e.kind ≡ out_of_memory)
-            ⊎ IsRefused s (view document.now) (reason_of e.kind) e.location) }
+            ⊎ IsRefused s (documents_for config.now (view document.now)) (reason_of e.kind)
+            (string_bytes e.uri) e.location) }
     {
         let nodes = read_document(alloc, config, document)?;
         Ok(Schema {

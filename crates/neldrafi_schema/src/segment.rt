@@ -1,9 +1,8 @@
 //! Steps into a value.
 
-ghost use Rattle.std.specs.Prelude.{◌≡◌, IfOk, option_map, string_bytes};
+ghost use Rattle.std.specs.Prelude.{◌≡◌, ◌++◌, IfOk, option_map, string_bytes};
 ghost use Rattle.serde_json.specs.View.{view};
-ghost use Rattle.strkw_report.specs.Paths.{path_below};
-ghost use Rattle.neldrafi_schema.specs.Paths.{child, segment_text};
+ghost use Rattle.neldrafi_schema.specs.Paths.{child, segment_location, segment_text};
 ghost use Rattle.neldrafi_schema.specs.Rules.{is_of_part};
 ghost use Rattle.neldrafi_schema.specs.machine.Compiled.{segment_of, step_of};
 ghost use Rattle.neldrafi_schema.specs.machine.Left.{same_segment};
@@ -13,11 +12,12 @@ use serde_json::Value;
 use std::alloc::{AllocError, Global};
 use strkw_report::Location;
 
-/// The key of a member, or the place of an item.
+/// The key of a member, or the place of an item; or, as the first one, the number of a document.
 #[derive(PartialEq, Eq, PartialOrd, Ord, Drop)]
 pub(crate) enum Segment {
     Key(String),
     Place(usize),
+    Document(usize),
 }
 
 /// The same, without memory of its own.
@@ -25,6 +25,7 @@ pub(crate) enum Segment {
 pub(crate) enum Step<'a> {
     Key(&'a str),
     Place(usize),
+    Document(usize),
 }
 
 impl Segment {
@@ -34,6 +35,7 @@ impl Segment {
         match self {
             Segment::Key(name) => Step::Key(name.as_str()),
             Segment::Place(place) => Step::Place(*place),
+            Segment::Document(number) => Step::Document(*number),
         }
     }
 }
@@ -45,6 +47,7 @@ impl<'a> Step<'a> {
         Ok(match self {
             Step::Key(name) => Segment::Key(String::from_str(alloc, name)?),
             Step::Place(place) => Segment::Place(place),
+            Step::Document(number) => Segment::Document(number),
         })
     }
 
@@ -54,6 +57,7 @@ impl<'a> Step<'a> {
         match (self, other) {
             (Step::Key(a), Step::Key(b)) => a == b,
             (Step::Place(m), Step::Place(n)) => m == n,
+            (Step::Document(m), Step::Document(n)) => m == n,
             _ => false,
         }
     }
@@ -76,6 +80,7 @@ impl<'a> Step<'a> {
         match self {
             Step::Key(name) => value.get(name),
             Step::Place(place) => value.get(place),
+            Step::Document(_) => None,
         }
     }
 
@@ -85,17 +90,18 @@ impl<'a> Step<'a> {
         match self {
             Step::Key(name) => String::from_str(alloc, name),
             Step::Place(place) => format!(in alloc; "{place}"),
+            Step::Document(_) => Ok(String::new(alloc)),
         }
     }
 
     /// The location of what is there.
     pub fn below(self, alloc: Global, location: &Location) -> Result<Location, AllocError>
-        ensures { IfOk result (λ l. l
-            ≡ path_below location.now (segment_text (step_of self.entry))) }
+        ensures { IfOk result (λ l. l ≡ location.now ++ segment_location (step_of self.entry)) }
     {
         match self {
             Step::Key(name) => location.join(name),
             Step::Place(place) => location.join(format!(in alloc; "{place}")?.as_str()),
+            Step::Document(_) => location.clone(),
         }
     }
 }

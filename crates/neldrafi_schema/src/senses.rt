@@ -1,25 +1,30 @@
 //! What the values of keywords come to, before the schemas in them are numbered.
 
 ghost use Rattle.std.specs.Prelude.{◌≡◌, ◌++◌, ◌∷◌, ℕ, IfOk, List, []};
-ghost use Rattle.serde_json.specs.Data.{Data};
 ghost use Rattle.serde_json.specs.Find.{as_array, as_bool, as_object, as_str};
 ghost use Rattle.serde_json.specs.View.{members_view, view};
 ghost use Rattle.strkw_pattern.specs.declared.engine.Outcome.{Outcome};
+ghost use Rattle.neldrafi_uri.specs.Components.{fragment_of};
+ghost use Rattle.neldrafi_schema.specs.Documents.{Documents};
 ghost use Rattle.neldrafi_schema.specs.Paths.{key};
 ghost use Rattle.neldrafi_schema.specs.References.{schema_referred};
-ghost use Rattle.neldrafi_schema.specs.Values.{additional_sense, branch_sense, contains_rule, count_beside, dependencies_sense, dialect_sense, has_placed_items, if_rule, is_condition, items_sense, lead_to, list_sense, map_sense, of_kind, others_sense, says, sense, target_sense};
+ghost use Rattle.neldrafi_schema.specs.Values.{additional_sense, anchor_sense, branch_sense, contains_rule, count_beside, dependencies_sense, dialect_sense, has_placed_items, has_some, identifier_sense, if_rule, is_condition, items_sense, lead_to, list_sense, map_sense, of_kind, others_sense, reference_sense, says, sense};
 ghost use Rattle.neldrafi_schema.specs.machine.Compiled.{path_of, rule_of};
+ghost use Rattle.neldrafi_schema.specs.machine.Identifiers.{IsLibrary};
 ghost use Rattle.neldrafi_schema.specs.machine.Leads.{AreLeads, IsThere};
+ghost use Rattle.neldrafi_schema.specs.machine.Places.{documents_of};
 ghost use Rattle.neldrafi_schema.specs.machine.Said.{sense_of};
 
 use crate::assertions::{assertion_sense, dependencies_in};
-use crate::known::{Known, draft_named, has_unevaluated};
+use crate::known::{Known, draft_named, has_unevaluated, is_anchor};
 use crate::leads::{Lead, dependency_leads, item_leads, lead_to, member_leads};
 use crate::node::Rule;
 use crate::numbers::size_in;
-use crate::places::{Place, Places, path_below};
+use crate::places::{Place, path_below};
+use crate::references::Library;
 use crate::refusal::SchemaErrorKind;
 use crate::segment::{Segment, Step};
+use neldrafi_uri::split_fragment;
 use serde_json::{Map, Value};
 use std::alloc::{AllocError, Global};
 use strkw_keywords::member as member_at;
@@ -51,34 +56,34 @@ pub(crate) fn wrong_type<'v, E: Drop>() -> Sense<'v, E>
 
 /// A rule without schemas.
 pub(crate) fn assertion<'v, E: Drop>(alloc: Global, rule: Rule<E>) -> Sense<'v, E>
-    ensures leads { (document : Data) → AreLeads document result }
+    ensures leads { (documents : Documents) → AreLeads documents result }
     ensures sense { (outcome : E → List ℕ → Outcome) → sense_of outcome result
         ≡ says (rule_of outcome rule) [] }
 {
     Sense::Says(rule, Vec::new(alloc))
 }
 
-/// What the value of a keyword comes to that is neither a string keyword nor `patternProperties`.
+/// What the value of a keyword means, unless it is a string keyword, `patternProperties` or a reference.
 pub(crate) fn sense_of<'v, E: Drop>(
     alloc: Global,
     draft: Draft,
-    places: &Places<'v>,
     member: &Member<'_, 'v>,
     known: Known,
 ) -> Result<Sense<'v, E>, AllocError>
     requires at { path_of member.now.at.now
         ≡ path_of member.now.path.now ++ key member.now.name.now ∷ [] }
-    requires there { IsThere (view places.now.document.now) member.now }
     ensures sense { (outcome : E → List ℕ → Outcome) → IfOk result (λ s. sense_of outcome s
-        ≡ sense draft (view places.now.document.now) (members_view member.now.object.now.entries)
+        ≡ sense draft (members_view member.now.object.now.entries)
         (path_of member.now.path.now) (path_of member.now.at.now) known
         (view member.now.value.now)) }
-    ensures leads { IfOk result (AreLeads (view places.now.document.now)) }
+    ensures leads { (documents : Documents) → IsThere documents member.now
+        → IfOk result (AreLeads documents) }
 {
     let value = member.value;
     match known {
         Known::Dialect => Ok(dialect_sense(value)),
-        Known::Reference => reference_sense(alloc, places, value),
+        Known::Draft4Identifier | Known::Identifier => Ok(identifier_sense(draft, value)),
+        Known::Anchor => Ok(anchor_sense(draft, value)),
         Known::AllOf => list_sense(alloc, Rule::AllOf, member),
         Known::AnyOf => list_sense(alloc, Rule::AnyOf, member),
         Known::OneOf => list_sense(alloc, Rule::OneOf, member),
@@ -108,13 +113,15 @@ pub(crate) fn sense_of<'v, E: Drop>(
         }
         Known::Items => items_sense(alloc, draft, member),
         Known::AdditionalItems => additional_sense(alloc, draft, member),
-        Known::PatternProperties | Known::Text(_) | Known::Unknown => Ok(Sense::Nothing),
+        Known::PatternProperties | Known::Reference | Known::Text(_) | Known::Unknown => {
+            Ok(Sense::Nothing)
+        }
         assertion => assertion_sense(alloc, draft, member, assertion),
     }
 }
 
 fn dialect_sense<'v, E: Drop>(value: &Value) -> Sense<'v, E>
-    ensures leads { (document : Data) → AreLeads document result }
+    ensures leads { (documents : Documents) → AreLeads documents result }
     ensures sense { (outcome : E → List ℕ → Outcome) → sense_of outcome result
         ≡ of_kind dialect_sense (as_str (view value.now)) }
 {
@@ -125,25 +132,63 @@ fn dialect_sense<'v, E: Drop>(value: &Value) -> Sense<'v, E>
     }
 }
 
-fn reference_sense<'v, E: Drop>(
+/// `$ref` of the schema at a path.
+pub(crate) fn reference_sense<'v, E: Drop>(
     alloc: Global,
-    places: &Places<'v>,
+    library: &Library<'v>,
+    path: &[Segment],
     value: &Value,
 ) -> Result<Sense<'v, E>, AllocError>
-    ensures sense { (outcome : E → List ℕ → Outcome) → IfOk result (λ s. sense_of outcome s
-        ≡ of_kind (λ text. target_sense (schema_referred (view places.now.document.now) text))
-        (as_str (view value.now))) }
-    ensures leads { IfOk result (AreLeads (view places.now.document.now)) }
+    requires library { IsLibrary library.now }
+    ensures sense { let referred = schema_referred library.now.draft
+        (documents_of library.now.documents) (path_of path.now) in
+        (outcome : E → List ℕ → Outcome) → IfOk result (λ s. sense_of outcome s
+        ≡ reference_sense referred (view value.now)) }
+    ensures leads { IfOk result (AreLeads (documents_of library.now.documents)) }
 {
     let Some(text) = value.as_str() else {
         return Ok(wrong_type());
     };
-    let Some(place) = places.target(alloc, text)? else {
+    let Some(place) = library.referred(alloc, path, text)? else {
         return Ok(Sense::Refused(SchemaErrorKind::UnresolvedReference));
     };
     let mut leads = Vec::new(alloc);
     leads.push(Lead { key: None, place })?;
     Ok(Sense::Says(Rule::Reference, leads))
+}
+
+// `$id`, or `id` in draft 4.
+fn identifier_sense<'v, E: Drop>(draft: Draft, value: &Value) -> Sense<'v, E>
+    ensures leads { (documents : Documents) → AreLeads documents result }
+    ensures sense { (outcome : E → List ℕ → Outcome) → sense_of outcome result
+        ≡ of_kind (identifier_sense draft) (as_str (view value.now)) }
+{
+    match value.as_str() {
+        None => wrong_type(),
+        Some(text) if Known::Anchor.is_of(draft) && has_fragment(text) => wrong_type(),
+        Some(_) => Sense::Nothing,
+    }
+}
+
+// Whether a reference has a fragment that is not empty.
+fn has_fragment(reference: &str) -> bool
+    ensures { result ≡ has_some (fragment_of reference.now) }
+{
+    match split_fragment(reference) {
+        (_, Some(fragment)) => !fragment.is_empty(),
+        (_, None) => false,
+    }
+}
+
+fn anchor_sense<'v, E: Drop>(draft: Draft, value: &Value) -> Sense<'v, E>
+    ensures leads { (documents : Documents) → AreLeads documents result }
+    ensures sense { (outcome : E → List ℕ → Outcome) → sense_of outcome result
+        ≡ of_kind (anchor_sense draft) (as_str (view value.now)) }
+{
+    match value.as_str() {
+        Some(text) if is_anchor(draft, text) => Sense::Nothing,
+        _ => wrong_type(),
+    }
 }
 
 // ---- schemas in values
@@ -155,8 +200,8 @@ fn one_sense<'v, E: Drop>(
 ) -> Result<Sense<'v, E>, AllocError>
     ensures sense { (outcome : E → List ℕ → Outcome) → IfOk result (λ s. sense_of outcome s
         ≡ says (rule_of outcome rule) (lead_to (path_of member.now.at.now))) }
-    ensures leads { (document : Data) → IsThere document member.now
-        → IfOk result (AreLeads document) }
+    ensures leads { (documents : Documents) → IsThere documents member.now
+        → IfOk result (AreLeads documents) }
 {
     let mut leads = Vec::new(alloc);
     leads.push(lead_to(alloc, member)?)?;
@@ -172,8 +217,8 @@ fn list_sense<'v, E: Drop>(
     ensures sense { (outcome : E → List ℕ → Outcome) → IfOk result (λ s. sense_of outcome s
         ≡ list_sense (rule_of outcome rule) (path_of member.now.at.now)
         (as_array (view member.now.value.now))) }
-    ensures leads { (document : Data) → IsThere document member.now
-        → IfOk result (AreLeads document) }
+    ensures leads { (documents : Documents) → IsThere documents member.now
+        → IfOk result (AreLeads documents) }
 {
     match member.value.as_array() {
         Some(items) if !items.is_empty() => {
@@ -191,8 +236,8 @@ fn map_sense<'v, E: Drop>(
     ensures sense { (outcome : E → List ℕ → Outcome) → IfOk result (λ s. sense_of outcome s
         ≡ map_sense (rule_of outcome rule) (path_of member.now.at.now)
         (as_object (view member.now.value.now))) }
-    ensures leads { (document : Data) → IsThere document member.now
-        → IfOk result (AreLeads document) }
+    ensures leads { (documents : Documents) → IsThere documents member.now
+        → IfOk result (AreLeads documents) }
 {
     match member.value.as_object() {
         Some(members) => Ok(Sense::Says(rule, member_leads(alloc, member.at, members)?)),
@@ -212,8 +257,8 @@ fn others_sense<'v, E: Drop>(
     ensures sense { (outcome : E → List ℕ → Outcome) → IfOk result (λ s. sense_of outcome s
         ≡ others_sense draft (rule_of outcome none) (rule_of outcome some)
         (path_of member.now.at.now) (as_bool (view member.now.value.now))) }
-    ensures leads { (document : Data) → IsThere document member.now
-        → IfOk result (AreLeads document) }
+    ensures leads { (documents : Documents) → IsThere documents member.now
+        → IfOk result (AreLeads documents) }
 {
     match member.value.as_bool() {
         Some(true) if has_unevaluated(draft) => one_sense(alloc, some, member),
@@ -231,8 +276,8 @@ fn items_sense<'v, E: Drop>(
 ) -> Result<Sense<'v, E>, AllocError>
     ensures sense { (outcome : E → List ℕ → Outcome) → IfOk result (λ s. sense_of outcome s
         ≡ items_sense draft (path_of member.now.at.now) (as_array (view member.now.value.now))) }
-    ensures leads { (document : Data) → IsThere document member.now
-        → IfOk result (AreLeads document) }
+    ensures leads { (documents : Documents) → IsThere documents member.now
+        → IfOk result (AreLeads documents) }
 {
     match draft {
         Draft::Draft202012 => one_sense(alloc, Rule::OtherItems, member),
@@ -250,8 +295,8 @@ fn additional_sense<'v, E: Drop>(
     ensures sense { (outcome : E → List ℕ → Outcome) → IfOk result (λ s. sense_of outcome s
         ≡ additional_sense draft (members_view member.now.object.now.entries)
         (path_of member.now.at.now) (view member.now.value.now)) }
-    ensures leads { (document : Data) → IsThere document member.now
-        → IfOk result (AreLeads document) }
+    ensures leads { (documents : Documents) → IsThere documents member.now
+        → IfOk result (AreLeads documents) }
 {
     if has_placed_items(member.object) {
         others_sense(alloc, draft, Rule::NoOtherItems, Rule::OtherItems, member)
@@ -280,8 +325,8 @@ fn branch_sense<'v, E: Drop>(
     ensures sense { (outcome : E → List ℕ → Outcome) → IfOk result (λ s. sense_of outcome s
         ≡ branch_sense (rule_of outcome rule) (members_view member.now.object.now.entries)
         (path_of member.now.path.now) (path_of member.now.at.now)) }
-    ensures leads { (document : Data) → IsThere document member.now
-        → IfOk result (AreLeads document) }
+    ensures leads { (documents : Documents) → IsThere documents member.now
+        → IfOk result (AreLeads documents) }
 {
     let mut leads = Vec::new(alloc);
     leads.push(lead_to(alloc, member)?)?;
@@ -346,8 +391,8 @@ fn dependencies_sense<'v, E: Drop>(
     ensures sense { (outcome : E → List ℕ → Outcome) → IfOk result (λ s. sense_of outcome s
         ≡ of_kind (dependencies_sense draft (path_of member.now.at.now))
         (as_object (view member.now.value.now))) }
-    ensures leads { (document : Data) → IsThere document member.now
-        → IfOk result (AreLeads document) }
+    ensures leads { (documents : Documents) → IsThere documents member.now
+        → IfOk result (AreLeads documents) }
 {
     let Some(members) = member.value.as_object() else {
         return Ok(wrong_type());

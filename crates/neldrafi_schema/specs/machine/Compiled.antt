@@ -1,5 +1,5 @@
 -- The schemas that nodes stand for, and the targets that the code has.
-use Rattle.std.specs.Prelude.{◌≡◌, ℕ, List, [], ◌∷◌, map, Option, option_map, string_bytes}
+use Rattle.std.specs.Prelude.{ℕ, List, map, option_map, string_bytes}
 use Rattle.serde_json.specs.Data.{Data}
 use Rattle.serde_json.specs.View.{number_view, view}
 use Rattle.strkw_pattern.specs.declared.engine.Outcome.{Outcome}
@@ -23,7 +23,7 @@ use Rattle.neldrafi_schema.specs.declared.node.Body.{Body as CompiledBody}
 use Rattle.neldrafi_schema.specs.declared.node.Body.TheVariants as body
 use Rattle.neldrafi_schema.specs.declared.node.Keyword.{Keyword as CompiledKeyword}
 use Rattle.neldrafi_schema.specs.declared.node.Keyword.TheVariants as keyword
-use Rattle.neldrafi_schema.specs.Paths.{Path, Segment, key, place}
+use Rattle.neldrafi_schema.specs.Paths.{Path, Segment, key, place, document}
 use Rattle.neldrafi_schema.specs.Rules.{Target, path_of as path_to}
 use Rattle.neldrafi_schema.specs.Schemas.{Dependency, Rule, types, among, equal_to, limited, multiple_of}
 use Rattle.neldrafi_schema.specs.Schemas.{sized, distinct, required, reference, all_of, dependent}
@@ -38,10 +38,12 @@ use Rattle.neldrafi_schema.specs.Schemas.{Body, always, never, keywords, Schema}
 abbrev pub segment_of : CompiledSegment → Segment
 segment_of (segment.Key name) = key (string_bytes name)
 segment_of (segment.Place n) = place n
+segment_of (segment.Document n) = document n
 
 abbrev pub step_of : Step → Segment
 step_of (step.Key name) = key name.now
 step_of (step.Place n) = place n
+step_of (step.Document n) = document n
 
 abbrev pub path_of : List CompiledSegment → Path
 path_of path = map segment_of path

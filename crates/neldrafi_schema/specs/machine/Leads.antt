@@ -11,21 +11,21 @@ use Rattle.neldrafi_schema.specs.declared.known.Known.TheVariants as known
 use Rattle.neldrafi_schema.specs.declared.senses.Member.{Member}
 use Rattle.neldrafi_schema.specs.declared.senses.Sense.{Sense}
 use Rattle.neldrafi_schema.specs.declared.senses.Sense.TheVariants as sense
-use Rattle.neldrafi_schema.specs.Paths.{value_at}
+use Rattle.neldrafi_schema.specs.Documents.{Documents, value_in}
 use Rattle.neldrafi_schema.specs.machine.Compiled.{path_of}
 use Rattle.neldrafi_schema.specs.machine.Places.{IsPlace}
 
 -- the object and the value are the document's at their paths
-pub record IsThere (document : Data) (m : Member) : Type 0 where
-  pub object : value_at (path_of m.path.now) document
+pub record IsThere (documents : Documents) (m : Member) : Type 0 where
+  pub object : value_in documents (path_of m.path.now)
       ≡ Some (object (members_view m.object.now.entries))
-  pub value : value_at (path_of m.at.now) document ≡ Some (view m.value.now)
+  pub value : value_in documents (path_of m.at.now) ≡ Some (view m.value.now)
 
 -- and so is each schema to which a keyword leads
-abbrev pub AreLeads : {E : Type 0} → Data → Sense E → Type 0
-AreLeads document (sense.Says r leads) =
-    AllByRecursion (λ l. IsPlace document l.place) leads.items
-AreLeads document other = Unit {0}
+abbrev pub AreLeads : {E : Type 0} → Documents → Sense E → Type 0
+AreLeads documents (sense.Says r leads) =
+    AllByRecursion (λ l. IsPlace documents l.place) leads.items
+AreLeads documents other = Unit {0}
 
 -- a boolean that is a schema
 abbrev pub boolean_of : Draft → Data → Option Bool

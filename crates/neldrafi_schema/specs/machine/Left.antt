@@ -5,9 +5,9 @@ use Rattle.std.specs.Str.{bytes_eq}
 use Rattle.serde_json.specs.Data.{Data}
 use Rattle.strkw_report.specs.declared.error.Site.{Site}
 use Rattle.neldrafi_schema.specs.declared.targets.Child.{Child as FoundChild}
-use Rattle.neldrafi_schema.specs.Paths.{Segment, key, place}
+use Rattle.neldrafi_schema.specs.Paths.{Segment, key, place, document}
 use Rattle.neldrafi_schema.specs.Errors.{Kind}
-use Rattle.neldrafi_schema.specs.Schemas.{Schema, Keyword, rule, string_keyword, malformed}
+use Rattle.neldrafi_schema.specs.Schemas.{Schema, Keyword, rule}
 use Rattle.neldrafi_schema.specs.Rules.{Child, Target, applied, kinds, left_kinds, on_each, part_of, spans, tested}
 use Rattle.neldrafi_schema.specs.Meaning.{AreLeft, AreUnevaluated, AreVerdicts, Below, root_site}
 use Rattle.neldrafi_schema.specs.Refusals.{ends}
@@ -39,4 +39,5 @@ EndsHere schemas steps d t = t.inside ≡ [] → (ends schemas steps t.schema �
 abbrev pub same_segment : Segment → Segment → Bool
 same_segment (key a) (key b) = bytes_eq a b
 same_segment (place m) (place n) = m == n
+same_segment (document m) (document n) = m == n
 same_segment a b = false

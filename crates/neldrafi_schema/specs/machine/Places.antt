@@ -1,12 +1,14 @@
 -- The places of a document, as they are found.
-use Rattle.std.specs.Prelude.{◌≡◌, ◌++◌, ℕ, List, map, Option, Some, None, String, string_bytes, slice_get}
-use Rattle.std.specs.declared.alloc.Global.{Global}
+use Rattle.std.specs.Prelude.{◌≡◌, ◌++◌, ℕ, List, map, Some, slice_get}
 use Rattle.std.specs.List.{AllByRecursion}
 use Rattle.serde_json.specs.Data.{Data}
 use Rattle.serde_json.specs.View.{view}
 use Rattle.neldrafi_schema.specs.declared.places.Place.{Place}
 use Rattle.neldrafi_schema.specs.declared.places.Places.{Places}
+use Rattle.neldrafi_schema.specs.declared.documents.Documents.{Documents as GivenDocuments}
+use Rattle.neldrafi_schema.specs.Documents.{Documents, value_in}
 use Rattle.neldrafi_schema.specs.Paths.{Path, value_at}
+use Rattle.neldrafi_schema.specs.Settings.{document_of}
 use Rattle.neldrafi_schema.specs.machine.Compiled.{path_of}
 
 abbrev pub place_path : Place → Path
@@ -24,14 +26,21 @@ pub record Extends (old new : List Path) : Type 0 where
 abbrev pub StaysAt : List Path → ℕ → Path → Type 0
 StaysAt paths n path = (all : List Path) → Extends paths all → slice_get all n ≡ Some path
 
-abbrev pub IsPlace : Data → Place → Type 0
-IsPlace document p = value_at (place_path p) document ≡ Some (view p.value.now)
+abbrev pub documents_of : GivenDocuments → Documents
+documents_of d = record { schema = view d.schema.now; further = map document_of d.further.now }
 
--- each value is the document's at its path
+abbrev pub IsPlace : Documents → Place → Type 0
+IsPlace documents p = value_in documents (place_path p) ≡ Some (view p.value.now)
+
+-- the same, from a value on
+abbrev pub IsBelow : Data → Place → Type 0
+IsBelow d p = value_at (place_path p) d ≡ Some (view p.value.now)
+
+-- each value is the documents' at its path
 pub record IsTable (t : Places) : Type 0 where
-  pub values : AllByRecursion (IsPlace (view t.document.now)) t.places.items
+  pub values : AllByRecursion (IsPlace (documents_of t.documents)) t.places.items
 
 pub record Grown (old new : Places) : Type 0 where
-  pub document : view new.document.now ≡ view old.document.now
+  pub documents : documents_of new.documents ≡ documents_of old.documents
   pub extends : Extends (paths_of old.places.items) (paths_of new.places.items)
   pub table : IsTable new

@@ -1,5 +1,5 @@
 -- Problems as the code keeps them: the first.
-use Rattle.std.specs.Prelude.{◌≡◌, ◌++◌, ℕ, List, [], ◌∷◌, Option, Some, None, string_bytes}
+use Rattle.std.specs.Prelude.{◌≡◌, ◌++◌, List, [], Option, Some, None}
 use Rattle.strkw_report.specs.Refusals.{reason_of as text_reason_of}
 use Rattle.neldrafi_schema.specs.declared.problem.Problem.{Problem}
 use Rattle.neldrafi_schema.specs.declared.refusal.SchemaErrorKind.{SchemaErrorKind}

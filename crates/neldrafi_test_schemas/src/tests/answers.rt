@@ -12,8 +12,17 @@ pub type Row = (&'static str, &'static str, &'static [&'static str]);
 
 /// Whether the calls answer as all rows say. The failure names the document of a row where they do not.
 pub fn are_answered(alloc: Global, rows: &[Row]) -> Result<(), Fail> {
+    are_answered_by(alloc, &Config::new(&NoPatterns), rows)
+}
+
+/// The same, for documents that are compiled under a configuration.
+pub fn are_answered_by(
+    alloc: Global,
+    config: &Config<'_, NoPatterns>,
+    rows: &[Row],
+) -> Result<(), Fail> {
     for &(document, instance, lines) in rows {
-        if !is_answered(alloc, document, instance, lines)? {
+        if !is_answered(alloc, config, document, instance, lines)? {
             return Err(Fail::new(document));
         }
     }
@@ -69,12 +78,13 @@ fn is_the_first(
 /// Whether the three calls answer as a row says. An allocation failure of `collect_errors` leaves its list as it was.
 pub fn is_answered(
     alloc: Global,
+    config: &Config<'_, NoPatterns>,
     document: &str,
     instance: &str,
     lines: &[&str],
 ) -> Result<bool, AllocError> {
     let (document, instance) = (json(alloc, document)?, json(alloc, instance)?);
-    let schema = match Schema::compile(alloc, &document, &Config::new(&NoPatterns)) {
+    let schema = match Schema::compile(alloc, &document, config) {
         Ok(schema) => schema,
         Err(error) if matches!(error.kind, SchemaErrorKind::Memory) => return Err(AllocError),
         Err(_) => return Ok(false),

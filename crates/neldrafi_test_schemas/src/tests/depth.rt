@@ -1,8 +1,10 @@
 //! Values and schemas as deep as JSON is read.
 
 use super::answers::is_answered;
+use neldrafi_schema::Config;
 use std::alloc::{AllocError, Global};
 use std::test::Fail;
+use strkw_pattern::NoPatterns;
 
 // A member that holds a member, and so on, so many times, around a text.
 fn nested(alloc: Global, member: &str, text: &str, times: u32) -> Result<String, AllocError> {
@@ -20,15 +22,15 @@ fn nested(alloc: Global, member: &str, text: &str, times: u32) -> Result<String,
 // As deep as JSON texts may be: an instance, and a document whose keywords lead on without entering it.
 #[test]
 fn deep_values(rt: HostRuntime) -> Result<(), Fail> {
-    let alloc = rt.alloc();
+    let (alloc, config) = (rt.alloc(), Config::new(&NoPatterns));
     let instance = nested(alloc, r#"{"a":"#, "5", 126)?;
     let within = r##"{"properties":{"a":{"$ref":"#"}},"not":{"type":"null"}}"##;
-    if !is_answered(alloc, within, instance.as_str(), &[])? {
+    if !is_answered(alloc, &config, within, instance.as_str(), &[])? {
         return Err(Fail::new("a deep instance"));
     }
     // a number of negations that is odd
     let document = nested(alloc, r#"{"not":"#, "false", 125)?;
-    if !is_answered(alloc, document.as_str(), "5", &[])? {
+    if !is_answered(alloc, &config, document.as_str(), "5", &[])? {
         return Err(Fail::new("a deep document"));
     }
     Ok(())

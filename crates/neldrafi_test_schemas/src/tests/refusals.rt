@@ -6,8 +6,10 @@ use std::alloc::{AllocError, Global};
 use std::test::Fail;
 use strkw_pattern::NoPatterns;
 
-// A document, why it is refused, and where.
-const REFUSALS: &[(&str, &str, &str)] = &[
+/// A document, why it is refused, and where.
+pub type Refusal = (&'static str, &'static str, &'static str);
+
+const REFUSALS: &[Refusal] = &[
     ("5", "WrongType", ""),
     (r#"{"type":5}"#, "WrongType", "/type"),
     (r#"{"type":"text"}"#, "WrongType", "/type"),
@@ -304,10 +306,14 @@ const REFUSALS: &[(&str, &str, &str)] = &[
     (r##"{"if":{"$ref":"#"}}"##, "CircularReference", "/if/$ref"),
 ];
 
-// The name of why a document is refused, and where.
-fn refusal_of(alloc: Global, document: &str) -> Result<Option<SchemaError>, AllocError> {
+/// Why a document is refused, and where.
+pub fn refusal_of(
+    alloc: Global,
+    config: &Config<'_, NoPatterns>,
+    document: &str,
+) -> Result<Option<SchemaError>, AllocError> {
     let document = json(alloc, document)?;
-    let result = Schema::compile(alloc, &document, &Config::new(&NoPatterns));
+    let result = Schema::compile(alloc, &document, config);
     drop(document);
     match result {
         Ok(_) => Ok(None),
@@ -329,10 +335,11 @@ fn name_of(kind: &SchemaErrorKind) -> &'static str {
     }
 }
 
-#[test]
-fn refusals_under_refusal(rt: HostRuntime) -> Result<(), Fail> {
-    for &(document, kind, place) in REFUSALS {
-        let is_so = match refusal_of(rt.alloc(), document)? {
+/// Whether documents are refused as all rows say. The failure names the document of a row where one is not.
+pub fn are_refused(alloc: Global, rows: &[Refusal]) -> Result<(), Fail> {
+    let config = Config::new(&NoPatterns);
+    for &(document, kind, place) in rows {
+        let is_so = match refusal_of(alloc, &config, document)? {
             Some(error) => name_of(&error.kind) == kind && error.location.as_str() == place,
             None => false,
         };
@@ -343,6 +350,11 @@ fn refusals_under_refusal(rt: HostRuntime) -> Result<(), Fail> {
     Ok(())
 }
 
+#[test]
+fn refusals_under_refusal(rt: HostRuntime) -> Result<(), Fail> {
+    are_refused(rt.alloc(), REFUSALS)
+}
+
 // A document, and what its refusal says.
 const EXPLANATIONS: &[(&str, &str)] = &[
     (
@@ -351,7 +363,7 @@ const EXPLANATIONS: &[(&str, &str)] = &[
     ),
     (
         r##"{"$ref":"#/a"}"##,
-        "at #/$ref: the reference leads to no schema of the document",
+        "at #/$ref: the reference leads to no schema of the given documents",
     ),
     (
         r##"{"$ref":"#"}"##,
@@ -369,8 +381,9 @@ const EXPLANATIONS: &[(&str, &str)] = &[
 
 #[test]
 fn explanations_under_refusal(rt: HostRuntime) -> Result<(), Fail> {
+    let config = Config::new(&NoPatterns);
     for &(document, text) in EXPLANATIONS {
-        let is_so = match refusal_of(rt.alloc(), document)? {
+        let is_so = match refusal_of(rt.alloc(), &config, document)? {
             Some(error) => error.text(rt.alloc())?.as_str() == text,
             None => false,
         };

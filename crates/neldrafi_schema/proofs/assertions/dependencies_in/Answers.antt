@@ -1,6 +1,6 @@
-use Rattle.std.proofs.Common.{rules, ◌≡◌, ◌++◌, ◌∷◌, ◌∙◌, ap, map, refl, subst, string_bytes, true, Some}
+use Rattle.std.proofs.Common.{rules, ◌≡◌, ◌++◌, ap, map, subst, string_bytes, true, Some}
 use Rattle.std.specs.Prelude.{option_map}
-use Rattle.serde_json.specs.Data.{Members, member}
+use Rattle.serde_json.specs.Data.{member}
 use Rattle.serde_json.specs.View.{members_view, view}
 use Rattle.neldrafi_schema.specs.declared.node.Dependency.{Dependency}
 use Rattle.neldrafi_schema.specs.Values.{dependencies_in, is_array, names_in}

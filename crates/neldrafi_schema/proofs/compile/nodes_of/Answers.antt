@@ -1,9 +1,9 @@
 use Rattle.std.proofs.Common.{rules, ◌≡◌, ◌∙◌, ◌≤◌, ℕ, ap, arith, length, subst, sym, None, Some}
 use Rattle.std.specs.Prelude.{slice_get}
 use Rattle.serde_json.specs.View.{view}
-use Rattle.serde_json.specs.Data.{Data}
 use Rattle.strkw_keywords.specs.Object.{Settings}
 use Rattle.strkw_report.specs.declared.draft.Draft.{Draft}
+use Rattle.neldrafi_schema.specs.Documents.{Documents}
 use Rattle.neldrafi_schema.specs.Drafts.{draft_of}
 use Rattle.neldrafi_schema.specs.Paths.{Path, location_of}
 use Rattle.neldrafi_schema.specs.Reading.{BodySays}
@@ -11,16 +11,16 @@ use Rattle.neldrafi_schema.specs.Refusals.{ends, schemas_endless}
 use Rattle.neldrafi_schema.specs.Settings.{config_settings}
 use Rattle.neldrafi_schema.specs.machine.Compiled.{schemas_of}
 use Rattle.neldrafi_schema.specs.machine.Compiled.{path_of}
-use Rattle.neldrafi_schema.specs.machine.Places.{paths_of, place_path}
+use Rattle.neldrafi_schema.specs.machine.Places.{documents_of, paths_of, place_path}
 use Rattle.neldrafi_schema.specs.machine.Problems.{Notes}
 use Rattle.neldrafi_schema.specs.machine.Said.{Reads, flag_at}
-use Rattle.neldrafi_schema.proofs.Documents.{is_refused, is_said, nothing_read, one_more}
+use Rattle.neldrafi_schema.proofs.Readings.{is_refused, is_said, nothing_read, one_more}
 use Rattle.neldrafi_schema.proofs.Lists.{there}
 use Rattle.neldrafi_schema.proofs.compile.nodes_of.Given.{Over}
 use Rattle.neldrafi_schema.proofs.compile.nodes_of.Goals.{After-new-nodes, else-loop-number-test, then-loop-number-test+in_default}
 use Rattle.neldrafi_schema.proofs.compile.nodes_of.Goals as goal
 
--- what the document is compiled under
+-- what the documents are compiled under
 abbrev settings : (g : Over) → After-new-nodes g → Settings
 settings g c =
     config_settings g.B.EngineBuilder.takes g.B.EngineBuilder.outcome (λ b. (goal.Format-dyn g b).admits b.1) (λ b. (goal.MediaTypeCheck-dyn g b).accepts b.1)
@@ -30,14 +30,20 @@ pub loop-number-init : goal.loop-number-init
 loop-number-init g c =
     let s = settings g (goal.at.loop-number-init g c).After-new-nodes in
     rw c.new-nodes.ensures.items (nothing_read g.B.Engine.RegexEngine.outcome s
-    (view c.args.document.now) c.in_ok-places.places c.in_ok-places.ensures.table c.in_ok-places.ensures.document
+    (documents_of c.args.documents) c.in_ok-places.places c.in_ok-places.ensures.table c.in_ok-places.ensures.documents
     c.in_ok-places.ensures.root)
+
+pub read_schema-requires-clause-library : goal.read_schema-requires-clause-library
+read_schema-requires-clause-library g c = record {
+  identifiers = c.in_ok-library.ensures.identifiers;
+  documents = c.loop-number.invariant.whole ∙ sym c.in_ok-library.ensures.documents;
+}
 
 pub loop-number-preserved : goal.loop-number-preserved
 loop-number-preserved g c =
     let s = settings g (goal.at.loop-number-preserved g c).After-new-nodes in
     let outcome = g.B.Engine.RegexEngine.outcome in
-    let document = view c.args.document.now in
+    let documents = documents_of c.args.documents in
     let read = c.loop-number.invariant in
     let place = c.in-Some.place.now in
     let at : slice_get c.loop-number.places.places.items c.loop-number.number ≡ Some place =
@@ -46,15 +52,17 @@ loop-number-preserved g c =
     let path : path_of c.deref-in-loop-number-2.result.now ≡ place_path place =
     ap path_of c.deref-in-loop-number-2.ensures.value ∙ (c.in_ok-path.ensures ∙ ap path_of c.deref-in-loop-number.ensures.value) in
     let ReadsAt =
-    λ (draft : Draft) (d : Data) (p : Path). Reads outcome s.lists (λ numbered body. BodySays numbered (record s { draft = draft }) d p (view place.value.now) body) p
+    λ (draft : Draft) (ds : Documents) (p : Path). Reads outcome s.lists (λ numbered body. BodySays numbered (record s { draft = draft }) ds p (view place.value.now) body) p
     (paths_of c.read_schema.new.places.places.items)
     c.loop-number.first c.read_schema.new.first c.in_ok-node.node.body in
-    let draft : c.draft_of.result ≡ draft_of s.draft document = search rules in
+    let library = c.in_ok-library.library in
+    let named : c.draft_of-draft.result ≡ draft_of s.draft documents.schema = search rules in
+    let draft : library.draft ≡ draft_of s.draft documents.schema = c.in_ok-library.ensures.draft ∙ named in
     let reads =
-    subst (λ draft. ReadsAt draft document (place_path place)) draft
-    (subst (ReadsAt c.draft_of.result document) path
-    (subst (λ d. ReadsAt c.draft_of.result d (path_of c.deref-in-loop-number-2.result.now)) read.whole c.in_ok-node.ensures.read)) in
-    one_more outcome s document c.loop-number.places c.read_schema.new.places c.loop-number.nodes.items c.push.new.self.items c.loop-number.first c.read_schema.new.first c.loop-number.number
+    subst (λ draft. ReadsAt draft documents (place_path place)) draft
+    (subst (ReadsAt library.draft documents) path
+    (subst (λ ds. ReadsAt library.draft ds (path_of c.deref-in-loop-number-2.result.now)) read.whole c.in_ok-node.ensures.read)) in
+    one_more outcome s documents c.loop-number.places c.read_schema.new.places c.loop-number.nodes.items c.push.new.self.items c.loop-number.first c.read_schema.new.first c.loop-number.number
     place c.in_ok-node.node read at c.in_ok-node.ensures.grown reads (c.in_ok-node.ensures.location ∙ ap location_of path) c.in_ok-push.ensures.items
 
 pub returns-in-Some-first-clause-refused : goal.returns-in-Some-first-clause-refused
@@ -73,7 +81,7 @@ returns-in-Some-first-clause-refused g c =
     let same : (n : ℕ) → end n ≡ ends (schemas_of outcome nodes) (length nodes) n = rw c.deref-2.ensures.value at c.in_ok-end.ensures in
     let notes : Notes (schemas_endless end (paths_of places) (schemas_of outcome nodes)) c.loop-number.first c.note_endless_references.new.first =
     rw (c.deref-3.ensures.value, c.deref-4.ensures.value, c.deref-5.ensures.value) at c.in_ok-note_endless_references.ensures in
-    is_refused outcome s (view c.args.document.now) c.loop-number.places nodes c.loop-number.first c.loop-number.number c.loop-number.invariant all
+    is_refused outcome s (documents_of c.args.documents) c.loop-number.places nodes c.loop-number.first c.loop-number.number c.loop-number.invariant all
     end c.note_endless_references.new.first c.in-Some-first.problem same notes c.in-Some-first.is
 
 pub returns : goal.returns
@@ -92,6 +100,6 @@ returns g c =
     let same : (n : ℕ) → end n ≡ ends (schemas_of outcome nodes) (length nodes) n = rw c.deref-2.ensures.value at c.in_ok-end.ensures in
     let notes : Notes (schemas_endless end (paths_of places) (schemas_of outcome nodes)) c.loop-number.first c.note_endless_references.new.first =
     rw (c.deref-3.ensures.value, c.deref-4.ensures.value, c.deref-5.ensures.value) at c.in_ok-note_endless_references.ensures in
-    let both = is_said outcome s (view c.args.document.now) c.loop-number.places nodes c.loop-number.first c.loop-number.number c.loop-number.invariant all
+    let both = is_said outcome s (documents_of c.args.documents) c.loop-number.places nodes c.loop-number.first c.loop-number.number c.loop-number.invariant all
     end c.note_endless_references.new.first same notes c.in-None.is in
     record { said = both.0; ready = both.1; refused = tt }

@@ -1,4 +1,4 @@
-use Rattle.std.proofs.Common.{rules, ◌≡◌, ◌∷◌, ap, false, true, refl, subst, string_bytes}
+use Rattle.std.proofs.Common.{rules, ◌≡◌, ◌∷◌, false, true, refl, subst, string_bytes}
 use Rattle.serde_json.specs.Data.{member}
 use Rattle.serde_json.specs.View.{members_view, view}
 use Rattle.neldrafi_schema.specs.Paths.{key}

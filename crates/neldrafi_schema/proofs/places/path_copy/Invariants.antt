@@ -1,4 +1,4 @@
-use Rattle.std.proofs.Common.{◌≡◌, map, take}
+use Rattle.std.proofs.Common.{◌≡◌, take}
 use Rattle.neldrafi_schema.specs.machine.Compiled.{path_of}
 use Rattle.neldrafi_schema.proofs.places.path_copy.Given as goal
 

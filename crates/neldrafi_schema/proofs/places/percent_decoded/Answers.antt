@@ -1,4 +1,4 @@
-use Rattle.std.proofs.Common.{rules, ◌≡◌, ◌∙◌, ap, sym, IfOk, string_bytes}
+use Rattle.std.proofs.Common.{rules, ◌≡◌, ◌∙◌, ap, IfOk, string_bytes}
 use Rattle.std.specs.Prelude.{option_map}
 use Rattle.percent_encoding.specs.Percent.{percent_decode}
 use Rattle.neldrafi_schema.proofs.Pointers.{text_read}

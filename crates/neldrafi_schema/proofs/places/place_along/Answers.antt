@@ -1,11 +1,11 @@
-use Rattle.std.proofs.Common.{rules, ◌≡◌, ◌∙◌, ◌++◌, ◌∷◌, [], ◌≤◌, ◌+◌, ℕ, List, Bor, ap, sym, subst, arith, drop, get_or, length, append-nil, refl, Some, None}
+use Rattle.std.proofs.Common.{rules, ◌≡◌, ◌∙◌, ◌++◌, ◌∷◌, [], ◌+◌, ℕ, List, Bor, ap, sym, drop, get_or, append-nil, refl, Some, None}
 use Rattle.std.proofs.lemmas.List.{drop_all, map-append}
 use Rattle.std.specs.Prelude.{option_map}
 use Rattle.serde_json.specs.View.{view}
 use Rattle.neldrafi_schema.specs.Paths.{Path, child}
 use Rattle.neldrafi_schema.specs.References.{path_along, segment_at}
-use Rattle.neldrafi_schema.specs.machine.Compiled.{path_of, segment_of, step_of}
-use Rattle.neldrafi_schema.proofs.Finding.{value_below}
+use Rattle.neldrafi_schema.specs.machine.Compiled.{path_of, segment_of}
+use Rattle.neldrafi_schema.proofs.Finding.{value_inside}
 use Rattle.neldrafi_schema.proofs.Pointers.{more_along, none_along, texts}
 use Rattle.neldrafi_schema.proofs.places.place_along.Goals as goal
 
@@ -45,7 +45,7 @@ loop-token-preserved c =
           (view c.in-Some.below.now) (rw segment at found)
           ∙ ap (λ p. option_map (λ below. p ++ below) (path_along (texts (drop (c.loop-token.token-index + 1) c.args.tokens.now)) (view c.in-Some.below.now)))
           (sym (path ∙ ap (λ s. path_of c.loop-token.path.items ++ s ∷ []) segment));
-      there = rw path (value_below (path_of c.loop-token.path.items) (view c.args.document.now) (segment_of c.in_ok-segment.segment) value
+      there = rw path (value_inside (path_of c.loop-token.path.items) (view c.args.document.now) (segment_of c.in_ok-segment.segment) value
           (view c.in-Some.below.now) c.loop-token.invariant.there found);
     }
 

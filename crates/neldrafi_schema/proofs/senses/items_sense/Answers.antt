@@ -13,7 +13,7 @@ returns-in_default g c = record {
       let is : is_some (as_array (view c.args.member.now.value.now)) ≡ true = search rules in
       IfOk-weaker c.list_sense.result _ _ (λ s e. e ∙ placed_items c.args.draft (path_of c.args.member.now.at.now) (as_array (view c.args.member.now.value.now)) c.in_default.not-Draft202012 is)
       (c.list_sense.ensures.sense outcome);
-  leads = λ document there. c.list_sense.ensures.leads document there;
+  leads = λ documents there. c.list_sense.ensures.leads documents there;
 }
 
 pub returns-in_default-2 : goal.returns-in_default-2
@@ -22,5 +22,5 @@ returns-in_default-2 g c = record {
       let is : is_some (as_array (view c.args.member.now.value.now)) ≡ false = search rules in
       IfOk-weaker c.one_sense-in_default-2.result _ _ (λ s e. e ∙ same_items c.args.draft (path_of c.args.member.now.at.now) (as_array (view c.args.member.now.value.now)) c.in_default.not-Draft202012 is)
       (c.one_sense-in_default-2.ensures.sense outcome);
-  leads = λ document there. c.one_sense-in_default-2.ensures.leads document there;
+  leads = λ documents there. c.one_sense-in_default-2.ensures.leads documents there;
 }

@@ -3,7 +3,6 @@ use Rattle.std.proofs.lemmas.Bool.Decides.{nat_tests}
 use Rattle.serde_json.specs.Find.{as_array}
 use Rattle.serde_json.specs.View.{items_view, view}
 use Rattle.neldrafi_schema.specs.machine.Compiled.{path_of, rule_of}
-use Rattle.neldrafi_schema.specs.Values.{item_leads}
 use Rattle.neldrafi_schema.proofs.Cases.{list_given}
 use Rattle.neldrafi_schema.proofs.senses.list_sense.Goals as goal
 

@@ -1,17 +1,23 @@
 use Rattle.std.proofs.Common.{◌≡◌, inl, inr}
-use Rattle.serde_json.specs.View.{members_view, view}
 use Rattle.neldrafi_schema.specs.declared.known.Known.TheVariants as known
 use Rattle.neldrafi_schema.specs.machine.Compiled.{path_of}
 use Rattle.neldrafi_schema.proofs.Cases.{assertion_left}
 use Rattle.neldrafi_schema.proofs.senses.sense_of.Goals as goal
 
 pub returns-in-Dialect-clause-leads : goal.returns-in-Dialect-clause-leads
-returns-in-Dialect-clause-leads g c = c.dialect_sense.ensures.leads (view c.args.places.now.document.now)
+returns-in-Dialect-clause-leads g c = λ documents there. c.dialect_sense.ensures.leads documents
 
-pub returns-in-Reference-clause-sense : goal.returns-in-Reference-clause-sense
-returns-in-Reference-clause-sense g c = λ outcome.
-    let is : c.args.known ≡ known.Reference = c.in-Reference.is in
-    rw is (c.reference_sense.ensures.sense outcome)
+pub returns-in-Draft4Identifier-clause-sense : goal.returns-in-Draft4Identifier-clause-sense
+returns-in-Draft4Identifier-clause-sense g c = λ outcome. elim c.in-Draft4Identifier.is [
+  | inl is ↦ rw is (c.identifier_sense.ensures.sense outcome)
+  | inr is ↦ rw is (c.identifier_sense.ensures.sense outcome)
+]
+
+pub returns-in-Draft4Identifier-clause-leads : goal.returns-in-Draft4Identifier-clause-leads
+returns-in-Draft4Identifier-clause-leads g c = λ documents there. c.identifier_sense.ensures.leads documents
+
+pub returns-in-Anchor-clause-leads : goal.returns-in-Anchor-clause-leads
+returns-in-Anchor-clause-leads g c = λ documents there. c.anchor_sense.ensures.leads documents
 
 pub returns-in-AnyOf-clause-sense : goal.returns-in-AnyOf-clause-sense
 returns-in-AnyOf-clause-sense g c = λ outcome.
@@ -71,8 +77,8 @@ returns-in-AdditionalItems-clause-sense g c = λ outcome.
 
 pub returns-in_default-clause-sense : goal.returns-in_default-clause-sense
 returns-in_default-clause-sense g c = λ outcome.
-    c.assertion_sense.ensures.sense outcome (view c.args.places.now.document.now) (path_of c.args.member.now.path.now) (path_of c.args.member.now.at.now)
-    (assertion_left c.args.known c.in_default.not-Dialect c.in_default.not-Reference c.in_default.not-AllOf c.in_default.not-AnyOf c.in_default.not-OneOf c.in_default.not-Properties c.in_default.not-Definitions c.in_default.not-Defs c.in_default.not-Dependencies c.in_default.not-PropertyNames c.in_default.not-Contains c.in_default.not-DependentSchemas c.in_default.not-PrefixItems c.in_default.not-Unevaluated c.in_default.not-If c.in_default.not-Not c.in_default.not-Then c.in_default.not-Else c.in_default.not-AdditionalProperties c.in_default.not-Items c.in_default.not-AdditionalItems c.in_default.not-PatternProperties c.in_default.not-Text c.in_default.not-Unknown)
+    c.assertion_sense.ensures.sense outcome (path_of c.args.member.now.path.now) (path_of c.args.member.now.at.now)
+    (assertion_left c.args.known c.in_default.not-Dialect c.in_default.not-Draft4Identifier c.in_default.not-Identifier c.in_default.not-Anchor c.in_default.not-AllOf c.in_default.not-AnyOf c.in_default.not-OneOf c.in_default.not-Properties c.in_default.not-Definitions c.in_default.not-Defs c.in_default.not-Dependencies c.in_default.not-PropertyNames c.in_default.not-Contains c.in_default.not-DependentSchemas c.in_default.not-PrefixItems c.in_default.not-Unevaluated c.in_default.not-If c.in_default.not-Not c.in_default.not-Then c.in_default.not-Else c.in_default.not-AdditionalProperties c.in_default.not-Items c.in_default.not-AdditionalItems c.in_default.not-PatternProperties c.in_default.not-Reference c.in_default.not-Text c.in_default.not-Unknown)
 
 pub returns-in_default-clause-leads : goal.returns-in_default-clause-leads
-returns-in_default-clause-leads g c = c.assertion_sense.ensures.leads (view c.args.places.now.document.now)
+returns-in_default-clause-leads g c = λ documents there. c.assertion_sense.ensures.leads documents

@@ -1,5 +1,4 @@
-use Rattle.std.proofs.Common.{rules, ◌≡◌, ◌∙◌, ◌<◌, ap, sym, get_or, length}
-use Rattle.neldrafi_schema.specs.declared.places.Place.{Place}
+use Rattle.std.proofs.Common.{rules, ◌≡◌, ◌∙◌, ◌<◌, sym, get_or, length}
 use Rattle.neldrafi_schema.specs.machine.Places.{place_path}
 use Rattle.neldrafi_schema.proofs.Order.{same_paths}
 use Rattle.neldrafi_schema.proofs.Tables.{place_stays}

@@ -16,7 +16,7 @@ use Rattle.neldrafi_schema.proofs.reading.Reader.compiled.Goals as goal
 abbrev settings : (g : Over) → After-compile_among-found g → Settings
 settings g c =
     record (config_settings g.B.EngineBuilder.takes g.B.EngineBuilder.outcome (λ b. (goal.Format-dyn g b).admits b.1) (λ b. (goal.MediaTypeCheck-dyn g b).accepts b.1)
-    (λ b. (goal.ContentCodec-dyn g b).is_encoding b.1) (λ b. (goal.ContentCodec-dyn g b).decoding b.1) c.args.self.now.config.now) { draft = c.args.self.now.draft }
+    (λ b. (goal.ContentCodec-dyn g b).is_encoding b.1) (λ b. (goal.ContentCodec-dyn g b).decoding b.1) c.args.self.now.config.now) { draft = c.args.self.now.library.now.draft }
 
 compiled : (g : Over) (c : After-compile_among-found g)
     → IsCompiledAt g.B.Engine.RegexEngine.outcome (keyword_settings (settings g c) (path_of c.args.path.now) c.args.keyword)

@@ -1,4 +1,4 @@
-use Rattle.std.proofs.Common.{rules, ◌≡◌, ◌∙◌, ◌∷◌, [], ap, subst, string_bytes, Some}
+use Rattle.std.proofs.Common.{rules, ◌≡◌, ◌∙◌, ap, subst, string_bytes, Some}
 use Rattle.serde_json.specs.Data.{member, no_members, string}
 use Rattle.serde_json.specs.View.{members_view, view}
 use Rattle.strkw_keywords.specs.Object.{Settings}
@@ -14,7 +14,7 @@ use Rattle.neldrafi_schema.proofs.reading.Reader.patterns_of.Goals as goal
 abbrev settings : (g : Over) → After-new-patterns g → Settings
 settings g c =
     record (config_settings g.B.EngineBuilder.takes g.B.EngineBuilder.outcome (λ b. (goal.Format-dyn g b).admits b.1) (λ b. (goal.MediaTypeCheck-dyn g b).accepts b.1)
-    (λ b. (goal.ContentCodec-dyn g b).is_encoding b.1) (λ b. (goal.ContentCodec-dyn g b).decoding b.1) c.args.self.now.config.now) { draft = c.args.self.now.draft }
+    (λ b. (goal.ContentCodec-dyn g b).is_encoding b.1) (λ b. (goal.ContentCodec-dyn g b).decoding b.1) c.args.self.now.config.now) { draft = c.args.self.now.library.now.draft }
 
 pub loop-name-init : goal.loop-name-init
 loop-name-init g c =

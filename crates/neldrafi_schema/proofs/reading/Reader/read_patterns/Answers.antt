@@ -1,4 +1,4 @@
-use Rattle.std.proofs.Common.{rules, ◌≡◌, ◌∙◌, ap, map, refl, subst, Some}
+use Rattle.std.proofs.Common.{rules, ◌≡◌, map, refl, subst, Some}
 use Rattle.std.proofs.lemmas.Result.{IfOk-weaker}
 use Rattle.serde_json.specs.Find.{as_object}
 use Rattle.serde_json.specs.View.{members_view, view}
@@ -15,7 +15,7 @@ pub returns-in_ok-leads-in-Ok-clause-says : goal.returns-in_ok-leads-in-Ok-claus
 returns-in_ok-leads-in-Ok-clause-says g c =
     let s : Settings =
     record (config_settings g.B.EngineBuilder.takes g.B.EngineBuilder.outcome (λ b. (goal.Format-dyn g b).admits b.1) (λ b. (goal.MediaTypeCheck-dyn g b).accepts b.1)
-    (λ b. (goal.ContentCodec-dyn g b).is_encoding b.1) (λ b. (goal.ContentCodec-dyn g b).decoding b.1) c.args.self.now.config.now) { draft = c.args.self.now.draft } in
+    (λ b. (goal.ContentCodec-dyn g b).is_encoding b.1) (λ b. (goal.ContentCodec-dyn g b).decoding b.1) c.args.self.now.config.now) { draft = c.args.self.now.library.now.draft } in
     let outcome = g.B.Engine.RegexEngine.outcome in
     let path = path_of c.args.member.now.path.now in
     let name = c.args.member.now.name.now in
@@ -31,14 +31,14 @@ pub returns-in_ok-leads-in-Ok-clause-ready : goal.returns-in_ok-leads-in-Ok-clau
 returns-in_ok-leads-in-Ok-clause-ready g c =
     let s : Settings =
     record (config_settings g.B.EngineBuilder.takes g.B.EngineBuilder.outcome (λ b. (goal.Format-dyn g b).admits b.1) (λ b. (goal.MediaTypeCheck-dyn g b).accepts b.1)
-    (λ b. (goal.ContentCodec-dyn g b).is_encoding b.1) (λ b. (goal.ContentCodec-dyn g b).decoding b.1) c.args.self.now.config.now) { draft = c.args.self.now.draft } in
+    (λ b. (goal.ContentCodec-dyn g b).is_encoding b.1) (λ b. (goal.ContentCodec-dyn g b).decoding b.1) c.args.self.now.config.now) { draft = c.args.self.now.library.now.draft } in
     c.numbered.ensures.ready s.lists (subst (ArePatternsReady g.B.Engine.RegexEngine.outcome s.lists) c.in-Ok.is c.in_ok-patterns.ensures.ready)
 
 pub returns-in-Err-clause-says : goal.returns-in-Err-clause-says
 returns-in-Err-clause-says g c = λ all extends.
     let s : Settings =
     record (config_settings g.B.EngineBuilder.takes g.B.EngineBuilder.outcome (λ b. (goal.Format-dyn g b).admits b.1) (λ b. (goal.MediaTypeCheck-dyn g b).accepts b.1)
-    (λ b. (goal.ContentCodec-dyn g b).is_encoding b.1) (λ b. (goal.ContentCodec-dyn g b).decoding b.1) c.args.self.now.config.now) { draft = c.args.self.now.draft } in
+    (λ b. (goal.ContentCodec-dyn g b).is_encoding b.1) (λ b. (goal.ContentCodec-dyn g b).decoding b.1) c.args.self.now.config.now) { draft = c.args.self.now.library.now.draft } in
     let outcome = g.B.Engine.RegexEngine.outcome in
     let path = path_of c.args.member.now.path.now in
     let name = c.args.member.now.name.now in

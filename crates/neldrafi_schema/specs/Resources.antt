@@ -1,0 +1,142 @@
+-- The URIs by which the schemas of a document are known (Core 2020-12, section 8.2; draft 7, Core,
+-- section 8.2).
+use Rattle.std.specs.Prelude.{ℕ, suc, List, [], ◌∷◌, ◌++◌, map, ◌&&◌, Option, Some, None, if◌then◌else◌}
+use Rattle.std.specs.Prelude.{option_map, unwrap_or}
+use Rattle.std.specs.Str.{bytes_eq}
+use Rattle.serde_json.specs.Data.{Data, array, object}
+use Rattle.serde_json.specs.Data.{Items, no_items, item, Members, no_members, member}
+use Rattle.strkw_report.specs.declared.draft.Draft.{Draft}
+use Rattle.neldrafi_uri.specs.Components.{fragment_of, without_fragment}
+use Rattle.neldrafi_uri.specs.Resolution.{resolved}
+use Rattle.neldrafi_schema.specs.declared.known.Known.{Known}
+use Rattle.neldrafi_schema.specs.declared.known.Known.TheVariants as known
+use Rattle.neldrafi_schema.specs.declared.known.Holding.{Holding}
+use Rattle.neldrafi_schema.specs.declared.known.Holding.TheVariants as held
+use Rattle.neldrafi_schema.specs.Drafts.{anchor_in, identifier_in, known_named}
+use Rattle.neldrafi_schema.specs.Paths.{Path, key, place, document, child}
+use Rattle.neldrafi_schema.specs.Documents.{Document, Documents, document_at, schema_uri}
+use Rattle.neldrafi_schema.specs.Rules.{option_list}
+
+-- a URI without a fragment, a plain name in it, which is empty for the resource itself, and the path
+-- to the schema that they identify
+pub record Identifier : Type 0 where
+  pub uri : List ℕ
+  pub anchor : List ℕ
+  pub path : Path
+
+-- ---- base URIs (Core 2020-12, sections 8.2.1 and 9.1.1)
+
+abbrev pub base_by : List ℕ → Option (List ℕ) → List ℕ
+base_by base (Some id) = resolved base (without_fragment id)
+base_by base None = base
+
+-- of a schema, by the one of the schema around it
+abbrev pub base_in : Draft → List ℕ → Data → List ℕ
+base_in draft base (object ms) = base_by base (identifier_in draft ms)
+base_in draft base other = base
+
+-- of the schema at a path
+abbrev pub base_at : Draft → List ℕ → Path → Data → List ℕ
+base_at draft base [] d = base_in draft base d
+base_at draft base (s ∷ path) d = unwrap_or
+    (option_map (base_at draft (base_in draft base d) path) (child s d)) (base_in draft base d)
+
+-- of the schema at a path, whose first step is the number of a document
+abbrev pub base_among : Draft → Documents → Path → List ℕ
+base_among draft documents (document n ∷ path) = unwrap_or
+    (option_map (λ d. base_at draft d.uri path d.value) (document_at documents n)) []
+base_among draft documents other = []
+
+-- ---- the subschemas of a document
+
+-- how the value of a keyword has schemas
+abbrev pub holding : Known → Holding
+holding known.Properties = held.ByKey
+holding known.PatternProperties = held.ByKey
+holding known.Dependencies = held.ByKey
+holding known.DependentSchemas = held.ByKey
+holding known.Definitions = held.ByKey
+holding known.Defs = held.ByKey
+holding known.AdditionalProperties = held.OneOrSeveral
+holding known.PropertyNames = held.OneOrSeveral
+holding known.PrefixItems = held.OneOrSeveral
+holding known.Items = held.OneOrSeveral
+holding known.AdditionalItems = held.OneOrSeveral
+holding known.Contains = held.OneOrSeveral
+holding known.AllOf = held.OneOrSeveral
+holding known.AnyOf = held.OneOrSeveral
+holding known.OneOf = held.OneOrSeveral
+holding known.Not = held.OneOrSeveral
+holding known.If = held.OneOrSeveral
+holding known.Then = held.OneOrSeveral
+holding known.Else = held.OneOrSeveral
+holding (known.Unevaluated p) = held.OneOrSeveral
+holding other = held.Nothing
+
+-- what counts of a value that is one schema or several, or of one whose members are schemas
+abbrev pub held_by : {A : Type 0} → Holding → List A → List A → List A
+held_by held.Nothing one members = []
+held_by held.OneOrSeveral one members = one
+held_by held.ByKey one members = members
+
+-- ---- identifiers
+
+-- of `$id`, and the plain names: its fragment up to draft 7, and `$anchor`
+abbrev pub anchors_of : Option (List ℕ) → List (List ℕ)
+anchors_of (Some id) = [] ∷ option_list (fragment_of id)
+anchors_of None = []
+
+abbrev pub own_identifiers : Draft → List ℕ → Path → Members → List Identifier
+own_identifiers draft base path ms = map (λ anchor. record { uri = base; anchor = anchor; path = path })
+    (anchors_of (identifier_in draft ms) ++ option_list (anchor_in draft ms))
+
+-- Those of the schema at a path and below it, whose base URI this is, in the order of the document.
+abbrev mutual
+  pub identifiers : Draft → List ℕ → Path → Data → List Identifier
+  identifiers draft base path (object ms) =
+      own_identifiers draft (base_by base (identifier_in draft ms)) path ms
+      ++ of_members draft (base_by base (identifier_in draft ms)) path ms ms
+  identifiers draft base path (array ds) = of_items draft base path 0 ds
+  identifiers draft base path other = []
+
+  pub of_items : Draft → List ℕ → Path → ℕ → Items → List Identifier
+  of_items draft base path n no_items = []
+  of_items draft base path n (item d ds) =
+      identifiers draft base (path ++ place n ∷ []) d ++ of_items draft base path (suc n) ds
+
+  -- of the members of the object all
+  pub of_members : Draft → List ℕ → Path → Members → Members → List Identifier
+  of_members draft base path all no_members = []
+  of_members draft base path all (member name d ms) =
+      held_by (holding (known_named draft all name)) (identifiers draft base (path ++ key name ∷ []) d)
+      (of_keyed draft base (path ++ key name ∷ []) d) ++ of_members draft base path all ms
+
+  -- of an object whose members are schemas
+  pub of_keyed : Draft → List ℕ → Path → Data → List Identifier
+  of_keyed draft base path (object ms) = of_each draft base path ms
+  of_keyed draft base path other = []
+
+  pub of_each : Draft → List ℕ → Path → Members → List Identifier
+  of_each draft base path no_members = []
+  of_each draft base path (member name d ms) =
+      identifiers draft base (path ++ key name ∷ []) d ++ of_each draft base path ms
+
+-- those of the document of a number, which is known by a URI
+abbrev pub document_identifiers : Draft → ℕ → List ℕ → Data → List Identifier
+document_identifiers draft n uri value = record { uri = uri; anchor = []; path = document n ∷ [] }
+    ∷ identifiers draft uri (document n ∷ []) value
+
+abbrev pub further_identifiers : Draft → ℕ → List Document → List Identifier
+further_identifiers draft n [] = []
+further_identifiers draft n (d ∷ documents) =
+    document_identifiers draft n d.uri d.value ++ further_identifiers draft (suc n) documents
+
+abbrev pub all_identifiers : Draft → Documents → List Identifier
+all_identifiers draft documents =
+    document_identifiers draft 0 schema_uri documents.schema ++ further_identifiers draft 1 documents.further
+
+-- the path to what a URI and a plain name identify, which is the first
+abbrev pub identified : List ℕ → List ℕ → List Identifier → Option Path
+identified uri anchor [] = None
+identified uri anchor (i ∷ ids) = if bytes_eq uri i.uri && bytes_eq anchor i.anchor
+    then Some i.path else identified uri anchor ids

@@ -1,0 +1,222 @@
+//! The URIs by which the schemas of a document are known.
+
+ghost use Rattle.std.specs.Prelude.{◌≡◌, ◌++◌, ◌∷◌, IfOk, OnOk, [], map, option_map, string_bytes, unwrap_or};
+ghost use Rattle.serde_json.specs.View.{items_view, members_view, view};
+ghost use Rattle.neldrafi_schema.specs.Drafts.{identifier_in};
+ghost use Rattle.neldrafi_schema.specs.Resources.{all_identifiers, base_by, document_identifiers, identifiers, of_items, of_keyed, of_members, own_identifiers};
+ghost use Rattle.neldrafi_schema.specs.machine.Compiled.{path_of};
+ghost use Rattle.neldrafi_schema.specs.machine.Identifiers.{identifiers_of};
+ghost use Rattle.neldrafi_schema.specs.machine.Places.{documents_of};
+
+use crate::documents::{Documents, SCHEMA_URI};
+use crate::known::{Holding, Known, anchor_in, identifier_in};
+use crate::places::{path_below, path_copy};
+use crate::segment::{Segment, Step};
+use neldrafi_uri::{resolved, split_fragment};
+use serde_json::{Map, Value};
+use std::alloc::{AllocError, Global};
+use strkw_report::Draft;
+
+/// A URI without a fragment, a plain name in it, which is empty for the resource itself, and the path to the schema
+/// that they identify.
+#[derive(Drop)]
+pub(crate) struct Identifier {
+    pub uri: String,
+    pub anchor: String,
+    pub path: Vec<Segment>,
+}
+
+/// What identifies the schemas of documents.
+pub(crate) fn all_identifiers(
+    alloc: Global,
+    draft: Draft,
+    documents: Documents<'_>,
+) -> Result<Vec<Identifier>, AllocError>
+    ensures { IfOk result (λ found. identifiers_of found.items
+        ≡ all_identifiers draft (documents_of documents.entry)) }
+{
+    let mut found = Vec::new(alloc);
+    push_of_document(alloc, draft, 0, SCHEMA_URI, documents.schema, &mut found)?;
+    for (place, document) in documents.further.iter().enumerate() {
+        let number = place + 1;
+        push_of_document(
+            alloc,
+            draft,
+            number,
+            document.uri,
+            document.value,
+            &mut found,
+        )?;
+    }
+    Ok(found)
+}
+
+// Those of the document of a number, which is known by a URI.
+fn push_of_document(
+    alloc: Global,
+    draft: Draft,
+    number: usize,
+    uri: &str,
+    document: &Value,
+    found: &mut Vec<Identifier>,
+) -> Result<(), AllocError>
+    ensures { OnOk result (identifiers_of found.new.items ≡ identifiers_of found.old.items
+        ++ document_identifiers draft number uri.now (view document.now)) }
+{
+    let path = [Segment::Document(number)];
+    push_identifier(alloc, uri, "", &path, found)?;
+    push_identifiers(alloc, draft, uri, &path, document, found)
+}
+
+/// The base URI of a schema object in a schema of this base URI, if it has one of its own.
+pub(crate) fn own_base(
+    alloc: Global,
+    draft: Draft,
+    base: &str,
+    object: &Map<String, Value>,
+) -> Result<Option<String>, AllocError>
+    ensures { IfOk result (λ own. unwrap_or (option_map string_bytes own) base.now
+        ≡ base_by base.now (identifier_in draft (members_view object.now.entries))) }
+{
+    match identifier_in(draft, object) {
+        Some(identifier) => {
+            let (uri, _) = split_fragment(identifier);
+            Ok(Some(resolved(alloc, base, uri)?))
+        }
+        None => Ok(None),
+    }
+}
+
+fn push_identifier(
+    alloc: Global,
+    uri: &str,
+    anchor: &str,
+    path: &[Segment],
+    found: &mut Vec<Identifier>,
+) -> Result<(), AllocError>
+    ensures { OnOk result (identifiers_of found.new.items ≡ identifiers_of found.old.items
+        ++ record { uri = uri.now; anchor = anchor.now; path = path_of path.now } ∷ []) }
+{
+    found.push(Identifier {
+        uri: String::from_str(alloc, uri)?,
+        anchor: String::from_str(alloc, anchor)?,
+        path: path_copy(alloc, path)?,
+    })?;
+    Ok(())
+}
+
+// Those of the schema at a path, or of the list of schemas there, and those below.
+#[cycle(push_identifiers)]
+fn push_identifiers(
+    alloc: Global,
+    draft: Draft,
+    base: &str,
+    path: &[Segment],
+    value: &Value,
+    found: &mut Vec<Identifier>,
+) -> Result<(), AllocError>
+    ensures { OnOk result (identifiers_of found.new.items ≡ identifiers_of found.old.items
+        ++ identifiers draft base.now (path_of path.now) (view value.now)) }
+{
+    match value {
+        Value::Object(object) => {
+            let own = own_base(alloc, draft, base, object)?;
+            let base = own.as_deref().unwrap_or(base);
+            push_own(alloc, draft, base, path, object, found)?;
+            push_of_members(alloc, draft, base, path, object, found)
+        }
+        Value::Array(items) => push_of_items(alloc, draft, base, path, items, found),
+        _ => Ok(()),
+    }
+}
+
+#[cycle(push_identifiers)]
+fn push_of_items(
+    alloc: Global,
+    draft: Draft,
+    base: &str,
+    path: &[Segment],
+    items: &[Value],
+    found: &mut Vec<Identifier>,
+) -> Result<(), AllocError>
+    ensures { OnOk result (identifiers_of found.new.items ≡ identifiers_of found.old.items
+        ++ of_items draft base.now (path_of path.now) 0 (items_view items.now)) }
+{
+    for (place, item) in items.iter().enumerate() {
+        let below = path_below(alloc, path, Step::Place(place))?;
+        push_identifiers(alloc, draft, base, &below, item, found)?;
+    }
+    Ok(())
+}
+
+#[cycle(push_identifiers)]
+fn push_of_members(
+    alloc: Global,
+    draft: Draft,
+    base: &str,
+    path: &[Segment],
+    object: &Map<String, Value>,
+    found: &mut Vec<Identifier>,
+) -> Result<(), AllocError>
+    ensures { let ms = members_view object.now.entries in
+        OnOk result (identifiers_of found.new.items ≡ identifiers_of found.old.items
+        ++ of_members draft base.now (path_of path.now) ms ms) }
+{
+    for (name, value) in object.iter() {
+        let below = path_below(alloc, path, Step::Key(name.as_str()))?;
+        match Known::among(draft, object, name.as_str()).holding() {
+            Holding::Nothing => {}
+            Holding::OneOrSeveral => push_identifiers(alloc, draft, base, &below, value, found)?,
+            Holding::ByKey => push_of_keyed(alloc, draft, base, &below, value, found)?,
+        }
+    }
+    Ok(())
+}
+
+// Those of an object whose members are schemas.
+#[cycle(push_identifiers)]
+fn push_of_keyed(
+    alloc: Global,
+    draft: Draft,
+    base: &str,
+    path: &[Segment],
+    value: &Value,
+    found: &mut Vec<Identifier>,
+) -> Result<(), AllocError>
+    ensures { OnOk result (identifiers_of found.new.items ≡ identifiers_of found.old.items
+        ++ of_keyed draft base.now (path_of path.now) (view value.now)) }
+{
+    let Value::Object(schemas) = value else {
+        return Ok(());
+    };
+    for (name, schema) in schemas.iter() {
+        let below = path_below(alloc, path, Step::Key(name.as_str()))?;
+        push_identifiers(alloc, draft, base, &below, schema, found)?;
+    }
+    Ok(())
+}
+
+// What the schema object at a path says of itself; its base URI is its own.
+fn push_own(
+    alloc: Global,
+    draft: Draft,
+    base: &str,
+    path: &[Segment],
+    object: &Map<String, Value>,
+    found: &mut Vec<Identifier>,
+) -> Result<(), AllocError>
+    ensures { OnOk result (identifiers_of found.new.items ≡ identifiers_of found.old.items
+        ++ own_identifiers draft base.now (path_of path.now) (members_view object.now.entries)) }
+{
+    if let Some(identifier) = identifier_in(draft, object) {
+        push_identifier(alloc, base, "", path, found)?;
+        let (_, fragment) = split_fragment(identifier);
+        if let Some(name) = fragment {
+            push_identifier(alloc, base, name, path, found)?;
+        }
+    }
+    match anchor_in(draft, object) {
+        Some(name) => push_identifier(alloc, base, name, path, found),
+        None => Ok(()),
+    }
+}

@@ -1,0 +1,3 @@
+pub mod Cuts
+pub mod Dots
+pub mod Merging
