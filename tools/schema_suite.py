@@ -24,11 +24,12 @@ SUITE = "/usr/share/perl5/auto/share/dist/Test-JSON-Schema-Acceptance/tests"
 DRAFTS = {"draft4": 4, "draft6": 6, "draft7": 7, "draft2019-09": 201909, "draft2020-12": 202012}
 SERVED_AT = "http://localhost:1234/"  # where the suite says that its documents are
 PROGRAM = "schema_answers"
-USES = f"{PROGRAM}: neldrafi_schema strkw_ecma strkw_report serde_json\n"
+USES = f"{PROGRAM}: neldrafi_schema neldrafi_meta_schemas strkw_ecma strkw_report serde_json\n"
 MAIN = """//! Answers lines `[DRAFT, SCHEMA, [INSTANCE, ..]]`, each by one line. The first line has the documents to which
-//! references may lead: `{DRAFT: {URI: DOCUMENT, ..}, ..}`.
+//! references may lead, besides the draft's meta-schemas: `{DRAFT: {URI: DOCUMENT, ..}, ..}`.
 #![tactic(auto)]
 
+use neldrafi_meta_schemas::{MetaSchema, meta_schemas};
 use neldrafi_schema::{Config, Document, Schema, SchemaErrorKind};
 use serde_json::Value;
 use std::alloc::{AllocError, Global};
@@ -48,12 +49,26 @@ fn name_of(kind: &SchemaErrorKind) -> &'static str {
     }
 }
 
+fn metas_of(alloc: Global, draft: &Value) -> Result<Vec<MetaSchema>, AllocError> {
+    let Some(draft) = draft_in(draft) else {
+        return Ok(Vec::new(alloc));
+    };
+    match meta_schemas(alloc, draft) {
+        Ok(metas) => Ok(metas),
+        Err(_) => Err(AllocError),
+    }
+}
+
 fn documents_of<'v>(
     alloc: Global,
     library: &'v Value,
+    metas: &'v [MetaSchema],
     draft: &Value,
 ) -> Result<Vec<Document<'v>>, AllocError> {
     let mut documents = Vec::new(alloc);
+    for meta in metas {
+        documents.push(meta.document())?;
+    }
     let draft = draft.to_string(alloc)?;
     if let Some(Value::Object(members)) = library.get(draft.as_str()) {
         for (uri, value) in members.iter() {
@@ -71,7 +86,8 @@ fn answer(alloc: Global, library: &Value, line: &str) -> Result<String, AllocErr
     let Some(draft) = group.get(0) else {
         return String::from_str(alloc, "no group");
     };
-    let documents = documents_of(alloc, library, draft)?;
+    let metas = metas_of(alloc, draft)?;
+    let documents = documents_of(alloc, library, &metas, draft)?;
     let mut config = Config::new(&EcmaPatterns);
     config.draft = draft_in(draft);
     config.documents = &documents;
@@ -123,10 +139,9 @@ fn main(rt: HostRuntime) -> ExitCode {
     ExitCode::SUCCESS
 }
 """
-# Files with cases that need meta-schemas, dynamic references or vocabularies, with the number of such cases.
+# Files with cases that need dynamic references, the meta-schemas that have these, or vocabularies, with the number of
+# such cases.
 KNOWN = {
-    "draft4/definitions.json": 2, "draft4/ref.json": 2, "draft6/definitions.json": 2, "draft6/ref.json": 2,
-    "draft7/definitions.json": 2, "draft7/ref.json": 2,
     "draft2019-09/anchor.json": 3, "draft2019-09/defs.json": 2, "draft2019-09/id.json": 13,
     "draft2019-09/recursiveRef.json": 11, "draft2019-09/ref.json": 3, "draft2019-09/vocabulary.json": 5,
     "draft2020-12/anchor.json": 3, "draft2020-12/defs.json": 2, "draft2020-12/dynamicRef.json": 15,
