@@ -14,7 +14,9 @@ use strkw_report::{Draft, Location};
 /// A document to which references may lead, and the URI by which it is known, without a fragment.
 #[derive(Clone, Copy)]
 pub struct Document<'a> {
+    /// Its URI, without a fragment (RFC 3986, section 4.3).
     pub uri: &'a str,
+    /// Its value.
     pub value: &'a Value,
 }
 

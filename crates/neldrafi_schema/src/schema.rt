@@ -35,11 +35,13 @@ pub struct Schema<'a, E> {
 }
 
 impl<'a, E: RegexEngine> Schema<'a, E> {
-    /// Compiles a document, of the draft of its `$schema`, or of `config`, or 2020-12.
+    /// Compiles a document, of the draft of its `$schema`, or of `config`, or 2020-12. References lead to its own schemas,
+    /// or to those of the further documents of `config` (Core 2020-12, section 8.2.3).
     ///
-    /// It is refused at the first value that has no meaning, or the first reference that comes to no end without
-    /// entering the instance, whichever comes first in the order of the document: an object stands before its members,
-    /// and these by the bytes of their keys. `Memory` comes where it is out of memory, at the root.
+    /// It is refused at the first value that has no meaning, or the first reference that leads back to itself without
+    /// entering the instance, whichever comes first in the order of the document: an object comes before its members,
+    /// and these by the bytes of their keys. Refusals in further documents come last. If out of memory, it fails with
+    /// `Memory`, at the root.
     pub fn compile<B: EngineBuilder<Engine = E>>(
         alloc: Global,
         document: &Value,
