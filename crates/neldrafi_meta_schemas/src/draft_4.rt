@@ -1,6 +1,9 @@
 //! The meta-schema of draft 4, as it is published.
 
-pub(crate) const TEXT: &str = r##"{
+/// The one document: its URI and text.
+pub(crate) const DOCUMENTS: &[(&str, &str)] = &[("http://json-schema.org/draft-04/schema", SCHEMA)];
+
+const SCHEMA: &str = r##"{
     "id": "http://json-schema.org/draft-04/schema#",
     "$schema": "http://json-schema.org/draft-04/schema#",
     "description": "Core schema meta-schema",

@@ -1,6 +1,9 @@
 //! The meta-schema of draft 6, as it is published.
 
-pub(crate) const TEXT: &str = r##"{
+/// The one document: its URI and text.
+pub(crate) const DOCUMENTS: &[(&str, &str)] = &[("http://json-schema.org/draft-06/schema", SCHEMA)];
+
+const SCHEMA: &str = r##"{
     "$schema": "http://json-schema.org/draft-06/schema#",
     "$id": "http://json-schema.org/draft-06/schema#",
     "title": "Core schema meta-schema",

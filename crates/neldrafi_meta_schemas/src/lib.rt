@@ -2,6 +2,8 @@
 #![tactic(auto)]
 
 mod documents;
+mod draft_2019_09;
+mod draft_2020_12;
 mod draft_4;
 mod draft_6;
 mod draft_7;

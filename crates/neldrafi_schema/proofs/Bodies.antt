@@ -18,6 +18,7 @@ use Rattle.neldrafi_schema.specs.machine.Problems.{Notes}
 use Rattle.neldrafi_schema.specs.machine.Leads.{boolean_of}
 use Rattle.neldrafi_schema.specs.machine.Said.{Reads}
 use Rattle.neldrafi_schema.specs.Documents.{Documents}
+use Rattle.neldrafi_schema.specs.Scopes.{Scope, ScopedPath}
 use Rattle.neldrafi_schema.proofs.Keeping.{nothing_noted}
 
 pub is_boolean : (d : Data) (b : Bool) → as_bool d ≡ Some b → d ≡ boolean b
@@ -36,18 +37,18 @@ is_object (string t) ms e = cc
 is_object (array ds) ms e = cc
 is_object (object others) ms e = let same : others ≡ ms = cc in ap object same
 
-neither_says : (numbered : Numbered) (s : Settings) (documents : Documents) (path : Path) (d : Data) → ((b : Bool) → as_bool d ≡ Some b → is_draft_4 s.draft ≡ true) → as_object d ≡ None
-    → BodySays numbered s documents path d neither
-neither_says numbered s documents path null e f = refl
-neither_says numbered s documents path (boolean a) e f = rw (e a refl) refl
-neither_says numbered s documents path (number x) e f = refl
-neither_says numbered s documents path (string t) e f = refl
-neither_says numbered s documents path (array ds) e f = refl
-neither_says numbered s documents path (object ms) e f = cc
+neither_says : (numbered : Numbered) (s : Settings) (documents : Documents) (scope : Scope) (path : Path) (d : Data) → ((b : Bool) → as_bool d ≡ Some b → is_draft_4 s.draft ≡ true) → as_object d ≡ None
+    → BodySays numbered s documents scope path d neither
+neither_says numbered s documents scope path null e f = refl
+neither_says numbered s documents scope path (boolean a) e f = rw (e a refl) refl
+neither_says numbered s documents scope path (number x) e f = refl
+neither_says numbered s documents scope path (string t) e f = refl
+neither_says numbered s documents scope path (array ds) e f = refl
+neither_says numbered s documents scope path (object ms) e f = cc
 
-module _ {E : Type 0} (outcome : E → List ℕ → Outcome) (lists : Lists) (s : Settings) (documents : Documents) (path : Path) (d : Data) (paths : List Path) (old : Option Problem) where
+module _ {E : Type 0} (outcome : E → List ℕ → Outcome) (lists : Lists) (s : Settings) (documents : Documents) (scope : Scope) (path : Path) (d : Data) (paths : List ScopedPath) (old : Option Problem) where
   abbrev pub ReadsBody : Option Problem → CompiledBody E → Type 0
-  ReadsBody = Reads outcome lists (λ numbered said. BodySays numbered s documents path d said) path paths old
+  ReadsBody = Reads outcome lists (λ numbered said. BodySays numbered s documents scope path d said) scope path paths old
 
   pub true_reads : is_draft_4 s.draft ≡ false → as_bool d ≡ Some true → ReadsBody old body.Always
   true_reads later e = record { said = always; means = λ all extends. rw (is_boolean d true e, later) refl; notes = nothing_noted old; same = refl; ready = λ all extends. tt }
@@ -58,7 +59,7 @@ module _ {E : Type 0} (outcome : E → List ℕ → Outcome) (lists : Lists) (s 
   pub other_reads : (new : Option Problem) → ((b : Bool) → as_bool d ≡ Some b → is_draft_4 s.draft ≡ true) → as_object d ≡ None → Notes ((path, wrong_type) ∷ []) old new → ReadsBody new body.Always
   other_reads new no_bool no_object notes = record {
     said = neither;
-    means = λ all extends. neither_says _ s documents path d no_bool no_object;
+    means = λ all extends. neither_says _ s documents scope path d no_bool no_object;
     notes = notes;
     same = refl;
     ready = λ all extends. tt;

@@ -13,6 +13,7 @@ use Rattle.neldrafi_schema.specs.declared.known.Known.{Known}
 use Rattle.neldrafi_schema.specs.declared.node.Part.{Part}
 use Rattle.neldrafi_schema.specs.declared.known.Known.TheVariants as known
 use Rattle.strkw_keywords.specs.Object.{Settings}
+use Rattle.neldrafi_schema.specs.Scopes.{Scope}
 use Rattle.neldrafi_schema.specs.Paths.{Path, key}
 use Rattle.neldrafi_schema.specs.Reading.{KnownSays, Numbered, SenseSays}
 use Rattle.neldrafi_schema.specs.Rules.{item_list}
@@ -80,83 +81,91 @@ same_items Draft201909 at (Some ds) n e = absurd (false≢true (sym e))
 
 -- ---- a keyword that is none of these has no schemas
 
-pub assertion_left : (kw : Known) → (kw ≡ known.Dialect → ⊥) → (kw ≡ known.Draft4Identifier → ⊥) → (kw ≡ known.Identifier → ⊥) → (kw ≡ known.Anchor → ⊥) → (kw ≡ known.AllOf → ⊥) → (kw ≡ known.AnyOf → ⊥) → (kw ≡ known.OneOf → ⊥) → (kw ≡ known.Properties → ⊥) → (kw ≡ known.Definitions → ⊥) → (kw ≡ known.Defs → ⊥) → (kw ≡ known.Dependencies → ⊥) → (kw ≡ known.PropertyNames → ⊥) → (kw ≡ known.Contains → ⊥) → (kw ≡ known.DependentSchemas → ⊥) → (kw ≡ known.PrefixItems → ⊥) → ((part : Part) → kw ≡ known.Unevaluated part → ⊥) → (kw ≡ known.If → ⊥) → (kw ≡ known.Not → ⊥) → (kw ≡ known.Then → ⊥) → (kw ≡ known.Else → ⊥) → (kw ≡ known.AdditionalProperties → ⊥) → (kw ≡ known.Items → ⊥) → (kw ≡ known.AdditionalItems → ⊥) → (kw ≡ known.PatternProperties → ⊥) → (kw ≡ known.Reference → ⊥) → ((text : TextKeyword) → kw ≡ known.Text text → ⊥) → (kw ≡ known.Unknown → ⊥) → is_assertion kw ≡ true
-assertion_left known.Dialect not_dialect _ _ _ _ _ _ _ _ _ _ _ _ _ _ _ _ _ _ _ _ _ _ _ _ _ _ = absurd (not_dialect refl)
-assertion_left known.Draft4Identifier _ not_draft4identifier _ _ _ _ _ _ _ _ _ _ _ _ _ _ _ _ _ _ _ _ _ _ _ _ _ = absurd (not_draft4identifier refl)
-assertion_left known.Identifier _ _ not_identifier _ _ _ _ _ _ _ _ _ _ _ _ _ _ _ _ _ _ _ _ _ _ _ _ = absurd (not_identifier refl)
-assertion_left known.Anchor _ _ _ not_anchor _ _ _ _ _ _ _ _ _ _ _ _ _ _ _ _ _ _ _ _ _ _ _ = absurd (not_anchor refl)
-assertion_left known.AllOf _ _ _ _ not_allof _ _ _ _ _ _ _ _ _ _ _ _ _ _ _ _ _ _ _ _ _ _ = absurd (not_allof refl)
-assertion_left known.AnyOf _ _ _ _ _ not_anyof _ _ _ _ _ _ _ _ _ _ _ _ _ _ _ _ _ _ _ _ _ = absurd (not_anyof refl)
-assertion_left known.OneOf _ _ _ _ _ _ not_oneof _ _ _ _ _ _ _ _ _ _ _ _ _ _ _ _ _ _ _ _ = absurd (not_oneof refl)
-assertion_left known.Properties _ _ _ _ _ _ _ not_properties _ _ _ _ _ _ _ _ _ _ _ _ _ _ _ _ _ _ _ = absurd (not_properties refl)
-assertion_left known.Definitions _ _ _ _ _ _ _ _ not_definitions _ _ _ _ _ _ _ _ _ _ _ _ _ _ _ _ _ _ = absurd (not_definitions refl)
-assertion_left known.Defs _ _ _ _ _ _ _ _ _ not_defs _ _ _ _ _ _ _ _ _ _ _ _ _ _ _ _ _ = absurd (not_defs refl)
-assertion_left known.Dependencies _ _ _ _ _ _ _ _ _ _ not_dependencies _ _ _ _ _ _ _ _ _ _ _ _ _ _ _ _ = absurd (not_dependencies refl)
-assertion_left known.PropertyNames _ _ _ _ _ _ _ _ _ _ _ not_propertynames _ _ _ _ _ _ _ _ _ _ _ _ _ _ _ = absurd (not_propertynames refl)
-assertion_left known.Contains _ _ _ _ _ _ _ _ _ _ _ _ not_contains _ _ _ _ _ _ _ _ _ _ _ _ _ _ = absurd (not_contains refl)
-assertion_left known.DependentSchemas _ _ _ _ _ _ _ _ _ _ _ _ _ not_dependentschemas _ _ _ _ _ _ _ _ _ _ _ _ _ = absurd (not_dependentschemas refl)
-assertion_left known.PrefixItems _ _ _ _ _ _ _ _ _ _ _ _ _ _ not_prefixitems _ _ _ _ _ _ _ _ _ _ _ _ = absurd (not_prefixitems refl)
-assertion_left (known.Unevaluated k) _ _ _ _ _ _ _ _ _ _ _ _ _ _ _ not_unevaluated _ _ _ _ _ _ _ _ _ _ _ = absurd (not_unevaluated k refl)
-assertion_left known.If _ _ _ _ _ _ _ _ _ _ _ _ _ _ _ _ not_if _ _ _ _ _ _ _ _ _ _ = absurd (not_if refl)
-assertion_left known.Not _ _ _ _ _ _ _ _ _ _ _ _ _ _ _ _ _ not_not _ _ _ _ _ _ _ _ _ = absurd (not_not refl)
-assertion_left known.Then _ _ _ _ _ _ _ _ _ _ _ _ _ _ _ _ _ _ not_then _ _ _ _ _ _ _ _ = absurd (not_then refl)
-assertion_left known.Else _ _ _ _ _ _ _ _ _ _ _ _ _ _ _ _ _ _ _ not_else _ _ _ _ _ _ _ = absurd (not_else refl)
-assertion_left known.AdditionalProperties _ _ _ _ _ _ _ _ _ _ _ _ _ _ _ _ _ _ _ _ not_additionalproperties _ _ _ _ _ _ = absurd (not_additionalproperties refl)
-assertion_left known.Items _ _ _ _ _ _ _ _ _ _ _ _ _ _ _ _ _ _ _ _ _ not_items _ _ _ _ _ = absurd (not_items refl)
-assertion_left known.AdditionalItems _ _ _ _ _ _ _ _ _ _ _ _ _ _ _ _ _ _ _ _ _ _ not_additionalitems _ _ _ _ = absurd (not_additionalitems refl)
-assertion_left known.PatternProperties _ _ _ _ _ _ _ _ _ _ _ _ _ _ _ _ _ _ _ _ _ _ _ not_patternproperties _ _ _ = absurd (not_patternproperties refl)
-assertion_left known.Reference _ _ _ _ _ _ _ _ _ _ _ _ _ _ _ _ _ _ _ _ _ _ _ _ not_reference _ _ = absurd (not_reference refl)
-assertion_left (known.Text k) _ _ _ _ _ _ _ _ _ _ _ _ _ _ _ _ _ _ _ _ _ _ _ _ _ not_text _ = absurd (not_text k refl)
-assertion_left known.Unknown _ _ _ _ _ _ _ _ _ _ _ _ _ _ _ _ _ _ _ _ _ _ _ _ _ _ not_unknown = absurd (not_unknown refl)
-assertion_left known.Types _ _ _ _ _ _ _ _ _ _ _ _ _ _ _ _ _ _ _ _ _ _ _ _ _ _ _ = refl
-assertion_left known.Enumeration _ _ _ _ _ _ _ _ _ _ _ _ _ _ _ _ _ _ _ _ _ _ _ _ _ _ _ = refl
-assertion_left known.Constant _ _ _ _ _ _ _ _ _ _ _ _ _ _ _ _ _ _ _ _ _ _ _ _ _ _ _ = refl
-assertion_left known.MultipleOf _ _ _ _ _ _ _ _ _ _ _ _ _ _ _ _ _ _ _ _ _ _ _ _ _ _ _ = refl
-assertion_left (known.Limited l) _ _ _ _ _ _ _ _ _ _ _ _ _ _ _ _ _ _ _ _ _ _ _ _ _ _ _ = refl
-assertion_left (known.Sized size) _ _ _ _ _ _ _ _ _ _ _ _ _ _ _ _ _ _ _ _ _ _ _ _ _ _ _ = refl
-assertion_left known.UniqueItems _ _ _ _ _ _ _ _ _ _ _ _ _ _ _ _ _ _ _ _ _ _ _ _ _ _ _ = refl
-assertion_left known.Required _ _ _ _ _ _ _ _ _ _ _ _ _ _ _ _ _ _ _ _ _ _ _ _ _ _ _ = refl
-assertion_left known.DependentRequired _ _ _ _ _ _ _ _ _ _ _ _ _ _ _ _ _ _ _ _ _ _ _ _ _ _ _ = refl
-assertion_left known.ContainsCount _ _ _ _ _ _ _ _ _ _ _ _ _ _ _ _ _ _ _ _ _ _ _ _ _ _ _ = refl
+pub assertion_left : (kw : Known) → (kw ≡ known.Dialect → ⊥) → (kw ≡ known.Draft4Identifier → ⊥) → (kw ≡ known.Identifier → ⊥) → (kw ≡ known.Anchor → ⊥) → (kw ≡ known.DynamicAnchor → ⊥) → (kw ≡ known.RecursiveAnchor → ⊥) → (kw ≡ known.DynamicReference → ⊥) → (kw ≡ known.RecursiveReference → ⊥) → (kw ≡ known.AllOf → ⊥) → (kw ≡ known.AnyOf → ⊥) → (kw ≡ known.OneOf → ⊥) → (kw ≡ known.Properties → ⊥) → (kw ≡ known.Definitions → ⊥) → (kw ≡ known.Defs → ⊥) → (kw ≡ known.Dependencies → ⊥) → (kw ≡ known.PropertyNames → ⊥) → (kw ≡ known.Contains → ⊥) → (kw ≡ known.DependentSchemas → ⊥) → (kw ≡ known.PrefixItems → ⊥) → ((part : Part) → kw ≡ known.Unevaluated part → ⊥) → (kw ≡ known.If → ⊥) → (kw ≡ known.Not → ⊥) → (kw ≡ known.Then → ⊥) → (kw ≡ known.Else → ⊥) → (kw ≡ known.AdditionalProperties → ⊥) → (kw ≡ known.Items → ⊥) → (kw ≡ known.AdditionalItems → ⊥) → (kw ≡ known.PatternProperties → ⊥) → (kw ≡ known.Reference → ⊥) → ((text : TextKeyword) → kw ≡ known.Text text → ⊥) → (kw ≡ known.Unknown → ⊥) → is_assertion kw ≡ true
+assertion_left known.Dialect not_dialect _ _ _ _ _ _ _ _ _ _ _ _ _ _ _ _ _ _ _ _ _ _ _ _ _ _ _ _ _ _ = absurd (not_dialect refl)
+assertion_left known.Draft4Identifier _ not_draft4identifier _ _ _ _ _ _ _ _ _ _ _ _ _ _ _ _ _ _ _ _ _ _ _ _ _ _ _ _ _ = absurd (not_draft4identifier refl)
+assertion_left known.Identifier _ _ not_identifier _ _ _ _ _ _ _ _ _ _ _ _ _ _ _ _ _ _ _ _ _ _ _ _ _ _ _ _ = absurd (not_identifier refl)
+assertion_left known.Anchor _ _ _ not_anchor _ _ _ _ _ _ _ _ _ _ _ _ _ _ _ _ _ _ _ _ _ _ _ _ _ _ _ = absurd (not_anchor refl)
+assertion_left known.AllOf _ _ _ _ _ _ _ _ not_allof _ _ _ _ _ _ _ _ _ _ _ _ _ _ _ _ _ _ _ _ _ _ = absurd (not_allof refl)
+assertion_left known.AnyOf _ _ _ _ _ _ _ _ _ not_anyof _ _ _ _ _ _ _ _ _ _ _ _ _ _ _ _ _ _ _ _ _ = absurd (not_anyof refl)
+assertion_left known.OneOf _ _ _ _ _ _ _ _ _ _ not_oneof _ _ _ _ _ _ _ _ _ _ _ _ _ _ _ _ _ _ _ _ = absurd (not_oneof refl)
+assertion_left known.Properties _ _ _ _ _ _ _ _ _ _ _ not_properties _ _ _ _ _ _ _ _ _ _ _ _ _ _ _ _ _ _ _ = absurd (not_properties refl)
+assertion_left known.Definitions _ _ _ _ _ _ _ _ _ _ _ _ not_definitions _ _ _ _ _ _ _ _ _ _ _ _ _ _ _ _ _ _ = absurd (not_definitions refl)
+assertion_left known.Defs _ _ _ _ _ _ _ _ _ _ _ _ _ not_defs _ _ _ _ _ _ _ _ _ _ _ _ _ _ _ _ _ = absurd (not_defs refl)
+assertion_left known.Dependencies _ _ _ _ _ _ _ _ _ _ _ _ _ _ not_dependencies _ _ _ _ _ _ _ _ _ _ _ _ _ _ _ _ = absurd (not_dependencies refl)
+assertion_left known.PropertyNames _ _ _ _ _ _ _ _ _ _ _ _ _ _ _ not_propertynames _ _ _ _ _ _ _ _ _ _ _ _ _ _ _ = absurd (not_propertynames refl)
+assertion_left known.Contains _ _ _ _ _ _ _ _ _ _ _ _ _ _ _ _ not_contains _ _ _ _ _ _ _ _ _ _ _ _ _ _ = absurd (not_contains refl)
+assertion_left known.DependentSchemas _ _ _ _ _ _ _ _ _ _ _ _ _ _ _ _ _ not_dependentschemas _ _ _ _ _ _ _ _ _ _ _ _ _ = absurd (not_dependentschemas refl)
+assertion_left known.PrefixItems _ _ _ _ _ _ _ _ _ _ _ _ _ _ _ _ _ _ not_prefixitems _ _ _ _ _ _ _ _ _ _ _ _ = absurd (not_prefixitems refl)
+assertion_left (known.Unevaluated k) _ _ _ _ _ _ _ _ _ _ _ _ _ _ _ _ _ _ _ not_unevaluated _ _ _ _ _ _ _ _ _ _ _ = absurd (not_unevaluated k refl)
+assertion_left known.If _ _ _ _ _ _ _ _ _ _ _ _ _ _ _ _ _ _ _ _ not_if _ _ _ _ _ _ _ _ _ _ = absurd (not_if refl)
+assertion_left known.Not _ _ _ _ _ _ _ _ _ _ _ _ _ _ _ _ _ _ _ _ _ not_not _ _ _ _ _ _ _ _ _ = absurd (not_not refl)
+assertion_left known.Then _ _ _ _ _ _ _ _ _ _ _ _ _ _ _ _ _ _ _ _ _ _ not_then _ _ _ _ _ _ _ _ = absurd (not_then refl)
+assertion_left known.Else _ _ _ _ _ _ _ _ _ _ _ _ _ _ _ _ _ _ _ _ _ _ _ not_else _ _ _ _ _ _ _ = absurd (not_else refl)
+assertion_left known.AdditionalProperties _ _ _ _ _ _ _ _ _ _ _ _ _ _ _ _ _ _ _ _ _ _ _ _ not_additionalproperties _ _ _ _ _ _ = absurd (not_additionalproperties refl)
+assertion_left known.Items _ _ _ _ _ _ _ _ _ _ _ _ _ _ _ _ _ _ _ _ _ _ _ _ _ not_items _ _ _ _ _ = absurd (not_items refl)
+assertion_left known.AdditionalItems _ _ _ _ _ _ _ _ _ _ _ _ _ _ _ _ _ _ _ _ _ _ _ _ _ _ not_additionalitems _ _ _ _ = absurd (not_additionalitems refl)
+assertion_left known.PatternProperties _ _ _ _ _ _ _ _ _ _ _ _ _ _ _ _ _ _ _ _ _ _ _ _ _ _ _ not_patternproperties _ _ _ = absurd (not_patternproperties refl)
+assertion_left known.Reference _ _ _ _ _ _ _ _ _ _ _ _ _ _ _ _ _ _ _ _ _ _ _ _ _ _ _ _ not_reference _ _ = absurd (not_reference refl)
+assertion_left (known.Text k) _ _ _ _ _ _ _ _ _ _ _ _ _ _ _ _ _ _ _ _ _ _ _ _ _ _ _ _ _ not_text _ = absurd (not_text k refl)
+assertion_left known.Unknown _ _ _ _ _ _ _ _ _ _ _ _ _ _ _ _ _ _ _ _ _ _ _ _ _ _ _ _ _ _ not_unknown = absurd (not_unknown refl)
+assertion_left known.Types _ _ _ _ _ _ _ _ _ _ _ _ _ _ _ _ _ _ _ _ _ _ _ _ _ _ _ _ _ _ _ = refl
+assertion_left known.Enumeration _ _ _ _ _ _ _ _ _ _ _ _ _ _ _ _ _ _ _ _ _ _ _ _ _ _ _ _ _ _ _ = refl
+assertion_left known.Constant _ _ _ _ _ _ _ _ _ _ _ _ _ _ _ _ _ _ _ _ _ _ _ _ _ _ _ _ _ _ _ = refl
+assertion_left known.MultipleOf _ _ _ _ _ _ _ _ _ _ _ _ _ _ _ _ _ _ _ _ _ _ _ _ _ _ _ _ _ _ _ = refl
+assertion_left (known.Limited l) _ _ _ _ _ _ _ _ _ _ _ _ _ _ _ _ _ _ _ _ _ _ _ _ _ _ _ _ _ _ _ = refl
+assertion_left (known.Sized size) _ _ _ _ _ _ _ _ _ _ _ _ _ _ _ _ _ _ _ _ _ _ _ _ _ _ _ _ _ _ _ = refl
+assertion_left known.UniqueItems _ _ _ _ _ _ _ _ _ _ _ _ _ _ _ _ _ _ _ _ _ _ _ _ _ _ _ _ _ _ _ = refl
+assertion_left known.Required _ _ _ _ _ _ _ _ _ _ _ _ _ _ _ _ _ _ _ _ _ _ _ _ _ _ _ _ _ _ _ = refl
+assertion_left known.DependentRequired _ _ _ _ _ _ _ _ _ _ _ _ _ _ _ _ _ _ _ _ _ _ _ _ _ _ _ _ _ _ _ = refl
+assertion_left known.ContainsCount _ _ _ _ _ _ _ _ _ _ _ _ _ _ _ _ _ _ _ _ _ _ _ _ _ _ _ _ _ _ _ = refl
+assertion_left known.DynamicAnchor _ _ _ _ not_it _ _ _ _ _ _ _ _ _ _ _ _ _ _ _ _ _ _ _ _ _ _ _ _ _ _ = absurd (not_it refl)
+assertion_left known.RecursiveAnchor _ _ _ _ _ not_it _ _ _ _ _ _ _ _ _ _ _ _ _ _ _ _ _ _ _ _ _ _ _ _ _ = absurd (not_it refl)
+assertion_left known.DynamicReference _ _ _ _ _ _ not_it _ _ _ _ _ _ _ _ _ _ _ _ _ _ _ _ _ _ _ _ _ _ _ _ = absurd (not_it refl)
+assertion_left known.RecursiveReference _ _ _ _ _ _ _ not_it _ _ _ _ _ _ _ _ _ _ _ _ _ _ _ _ _ _ _ _ _ _ _ = absurd (not_it refl)
 
--- any keyword but three says what its sense does
-pub known_else : (numbered : Numbered) (s : Settings) (documents : Documents) (path : Path) (ms : Members) (name : List ℕ) (d : Data) (ks : List Keyword) (kw : Known)
-    → (kw ≡ known.PatternProperties → ⊥) → (kw ≡ known.Reference → ⊥) → ((text : TextKeyword) → kw ≡ known.Text text → ⊥)
-    → SenseSays numbered name (sense s.draft ms path (path ++ key name ∷ []) kw d) ks → KnownSays numbered s documents path ms name kw d ks
-known_else numbered s documents path ms name d ks known.Dialect patterns reference text stated = stated
-known_else numbered s documents path ms name d ks known.Reference patterns reference text stated = absurd (reference refl)
-known_else numbered s documents path ms name d ks known.Draft4Identifier patterns reference text stated = stated
-known_else numbered s documents path ms name d ks known.Identifier patterns reference text stated = stated
-known_else numbered s documents path ms name d ks known.Anchor patterns reference text stated = stated
-known_else numbered s documents path ms name d ks known.Types patterns reference text stated = stated
-known_else numbered s documents path ms name d ks known.Enumeration patterns reference text stated = stated
-known_else numbered s documents path ms name d ks known.Constant patterns reference text stated = stated
-known_else numbered s documents path ms name d ks known.MultipleOf patterns reference text stated = stated
-known_else numbered s documents path ms name d ks (known.Limited l) patterns reference text stated = stated
-known_else numbered s documents path ms name d ks (known.Sized size) patterns reference text stated = stated
-known_else numbered s documents path ms name d ks known.UniqueItems patterns reference text stated = stated
-known_else numbered s documents path ms name d ks known.Required patterns reference text stated = stated
-known_else numbered s documents path ms name d ks known.Dependencies patterns reference text stated = stated
-known_else numbered s documents path ms name d ks known.DependentRequired patterns reference text stated = stated
-known_else numbered s documents path ms name d ks known.DependentSchemas patterns reference text stated = stated
-known_else numbered s documents path ms name d ks known.Properties patterns reference text stated = stated
-known_else numbered s documents path ms name d ks known.PatternProperties patterns reference text stated = absurd (patterns refl)
-known_else numbered s documents path ms name d ks known.AdditionalProperties patterns reference text stated = stated
-known_else numbered s documents path ms name d ks known.PropertyNames patterns reference text stated = stated
-known_else numbered s documents path ms name d ks known.PrefixItems patterns reference text stated = stated
-known_else numbered s documents path ms name d ks known.Items patterns reference text stated = stated
-known_else numbered s documents path ms name d ks known.AdditionalItems patterns reference text stated = stated
-known_else numbered s documents path ms name d ks known.Contains patterns reference text stated = stated
-known_else numbered s documents path ms name d ks known.ContainsCount patterns reference text stated = stated
-known_else numbered s documents path ms name d ks known.AllOf patterns reference text stated = stated
-known_else numbered s documents path ms name d ks known.AnyOf patterns reference text stated = stated
-known_else numbered s documents path ms name d ks known.OneOf patterns reference text stated = stated
-known_else numbered s documents path ms name d ks known.Not patterns reference text stated = stated
-known_else numbered s documents path ms name d ks known.If patterns reference text stated = stated
-known_else numbered s documents path ms name d ks known.Then patterns reference text stated = stated
-known_else numbered s documents path ms name d ks known.Else patterns reference text stated = stated
-known_else numbered s documents path ms name d ks known.Definitions patterns reference text stated = stated
-known_else numbered s documents path ms name d ks known.Defs patterns reference text stated = stated
-known_else numbered s documents path ms name d ks (known.Unevaluated p) patterns reference text stated = stated
-known_else numbered s documents path ms name d ks (known.Text k) patterns reference text stated = absurd (text k refl)
-known_else numbered s documents path ms name d ks known.Unknown patterns reference text stated = stated
+-- any keyword but five says what its sense does
+pub known_else : (numbered : Numbered) (s : Settings) (documents : Documents) (scope : Scope) (path : Path) (ms : Members) (name : List ℕ) (d : Data) (ks : List Keyword) (kw : Known)
+    → (kw ≡ known.PatternProperties → ⊥) → (kw ≡ known.Reference → ⊥) → (kw ≡ known.DynamicReference → ⊥) → (kw ≡ known.RecursiveReference → ⊥) → ((text : TextKeyword) → kw ≡ known.Text text → ⊥)
+    → SenseSays numbered name (sense s.draft ms path (path ++ key name ∷ []) kw d) ks → KnownSays numbered s documents scope path ms name kw d ks
+known_else numbered s documents scope path ms name d ks known.Dialect patterns reference dynamic recursive text stated = stated
+known_else numbered s documents scope path ms name d ks known.Reference patterns reference dynamic recursive text stated = absurd (reference refl)
+known_else numbered s documents scope path ms name d ks known.Draft4Identifier patterns reference dynamic recursive text stated = stated
+known_else numbered s documents scope path ms name d ks known.Identifier patterns reference dynamic recursive text stated = stated
+known_else numbered s documents scope path ms name d ks known.Anchor patterns reference dynamic recursive text stated = stated
+known_else numbered s documents scope path ms name d ks known.DynamicReference patterns reference dynamic recursive text stated = absurd (dynamic refl)
+known_else numbered s documents scope path ms name d ks known.DynamicAnchor patterns reference dynamic recursive text stated = stated
+known_else numbered s documents scope path ms name d ks known.RecursiveReference patterns reference dynamic recursive text stated = absurd (recursive refl)
+known_else numbered s documents scope path ms name d ks known.RecursiveAnchor patterns reference dynamic recursive text stated = stated
+known_else numbered s documents scope path ms name d ks known.Types patterns reference dynamic recursive text stated = stated
+known_else numbered s documents scope path ms name d ks known.Enumeration patterns reference dynamic recursive text stated = stated
+known_else numbered s documents scope path ms name d ks known.Constant patterns reference dynamic recursive text stated = stated
+known_else numbered s documents scope path ms name d ks known.MultipleOf patterns reference dynamic recursive text stated = stated
+known_else numbered s documents scope path ms name d ks (known.Limited l) patterns reference dynamic recursive text stated = stated
+known_else numbered s documents scope path ms name d ks (known.Sized size) patterns reference dynamic recursive text stated = stated
+known_else numbered s documents scope path ms name d ks known.UniqueItems patterns reference dynamic recursive text stated = stated
+known_else numbered s documents scope path ms name d ks known.Required patterns reference dynamic recursive text stated = stated
+known_else numbered s documents scope path ms name d ks known.Dependencies patterns reference dynamic recursive text stated = stated
+known_else numbered s documents scope path ms name d ks known.DependentRequired patterns reference dynamic recursive text stated = stated
+known_else numbered s documents scope path ms name d ks known.DependentSchemas patterns reference dynamic recursive text stated = stated
+known_else numbered s documents scope path ms name d ks known.Properties patterns reference dynamic recursive text stated = stated
+known_else numbered s documents scope path ms name d ks known.PatternProperties patterns reference dynamic recursive text stated = absurd (patterns refl)
+known_else numbered s documents scope path ms name d ks known.AdditionalProperties patterns reference dynamic recursive text stated = stated
+known_else numbered s documents scope path ms name d ks known.PropertyNames patterns reference dynamic recursive text stated = stated
+known_else numbered s documents scope path ms name d ks known.PrefixItems patterns reference dynamic recursive text stated = stated
+known_else numbered s documents scope path ms name d ks known.Items patterns reference dynamic recursive text stated = stated
+known_else numbered s documents scope path ms name d ks known.AdditionalItems patterns reference dynamic recursive text stated = stated
+known_else numbered s documents scope path ms name d ks known.Contains patterns reference dynamic recursive text stated = stated
+known_else numbered s documents scope path ms name d ks known.ContainsCount patterns reference dynamic recursive text stated = stated
+known_else numbered s documents scope path ms name d ks known.AllOf patterns reference dynamic recursive text stated = stated
+known_else numbered s documents scope path ms name d ks known.AnyOf patterns reference dynamic recursive text stated = stated
+known_else numbered s documents scope path ms name d ks known.OneOf patterns reference dynamic recursive text stated = stated
+known_else numbered s documents scope path ms name d ks known.Not patterns reference dynamic recursive text stated = stated
+known_else numbered s documents scope path ms name d ks known.If patterns reference dynamic recursive text stated = stated
+known_else numbered s documents scope path ms name d ks known.Then patterns reference dynamic recursive text stated = stated
+known_else numbered s documents scope path ms name d ks known.Else patterns reference dynamic recursive text stated = stated
+known_else numbered s documents scope path ms name d ks known.Definitions patterns reference dynamic recursive text stated = stated
+known_else numbered s documents scope path ms name d ks known.Defs patterns reference dynamic recursive text stated = stated
+known_else numbered s documents scope path ms name d ks (known.Unevaluated p) patterns reference dynamic recursive text stated = stated
+known_else numbered s documents scope path ms name d ks (known.Text k) patterns reference dynamic recursive text stated = absurd (text k refl)
+known_else numbered s documents scope path ms name d ks known.Unknown patterns reference dynamic recursive text stated = stated

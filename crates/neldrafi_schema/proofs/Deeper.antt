@@ -160,6 +160,10 @@ module _ (path : Path) where
   sense_down draft ms at known.Draft4Identifier d h = kind_down (identifier_sense draft) (identifier_down draft) (as_str d)
   sense_down draft ms at known.Identifier d h = kind_down (identifier_sense draft) (identifier_down draft) (as_str d)
   sense_down draft ms at known.Anchor d h = kind_down (anchor_sense draft) (λ text. chosen_down (is_anchor draft text) nothing (refused wrong_type) tt tt) (as_str d)
+  sense_down draft ms at known.DynamicAnchor d h = kind_down (anchor_sense draft) (λ text. chosen_down (is_anchor draft text) nothing (refused wrong_type) tt tt) (as_str d)
+  sense_down draft ms at known.RecursiveAnchor d h = kind_down (λ b. nothing) (λ b. tt) (as_bool d)
+  sense_down draft ms at known.DynamicReference d h = tt
+  sense_down draft ms at known.RecursiveReference d h = tt
   sense_down draft ms at known.Types d h = kind_down (λ ts. says (types (not (is_draft_4 draft)) ts) []) (λ ts. no_leads (types (not (is_draft_4 draft)) ts) refl) (types_in d)
   sense_down draft ms at known.Enumeration d h = kind_down (λ ds. says (among ds) []) (λ ds. no_leads (among ds) refl) (values_in draft d)
   sense_down draft ms at known.Constant d h = no_leads (equal_to d) refl

@@ -7,6 +7,7 @@ use Rattle.std.specs.List.{AllByRecursion}
 use Rattle.std.specs.declared.cmp.Ordering.{Ordering}
 use Rattle.std.specs.Ordering.{ordering_index, ordering_reverse}
 use Rattle.neldrafi_schema.specs.declared.problem.Problem.{Problem}
+use Rattle.neldrafi_schema.specs.Scopes.{ScopedPath}
 use Rattle.neldrafi_schema.specs.Paths.{Path, Segment, key, place, document, segment_cmp, path_cmp, StandsBefore}
 use Rattle.neldrafi_schema.specs.machine.Places.{Extends}
 use Rattle.neldrafi_schema.specs.machine.Problems.{IsKept, Notes, problem_of}
@@ -112,17 +113,17 @@ noted_both xs ys o m n p q = record {
 
 -- ---- places that stay
 
-pub stays : (old new : List Path) (n : ℕ) (path : Path) → Extends old new → slice_get old n ≡ Some path → slice_get new n ≡ Some path
-stays old new n path extends e = subst (λ l. slice_get l n ≡ Some path) (sym extends.longer) (behind old extends.more n e) where
-  behind : (old more : List Path) (n : ℕ) → slice_get old n ≡ Some path → slice_get (old ++ more) n ≡ Some path
+pub stays : (old new : List ScopedPath) (n : ℕ) (at : ScopedPath) → Extends old new → slice_get old n ≡ Some at → slice_get new n ≡ Some at
+stays old new n at extends e = subst (λ l. slice_get l n ≡ Some at) (sym extends.longer) (behind old extends.more n e) where
+  behind : (old more : List ScopedPath) (n : ℕ) → slice_get old n ≡ Some at → slice_get (old ++ more) n ≡ Some at
   behind [] more n e = cc
   behind (p ∷ old) more zero e = e
   behind (p ∷ old) more (suc n) e = behind old more n e
 
-pub extends_itself : (paths : List Path) → Extends paths paths
+pub extends_itself : (paths : List ScopedPath) → Extends paths paths
 extends_itself paths = record { more = []; longer = sym (append-nil paths) }
 
-pub extends_both : (a b c : List Path) → Extends a b → Extends b c → Extends a c
+pub extends_both : (a b c : List ScopedPath) → Extends a b → Extends b c → Extends a c
 extends_both a b c p q = record {
   more = p.more ++ q.more;
   longer = q.longer ∙ ap (λ l. l ++ q.more) p.longer ∙ append_assoc a p.more q.more;

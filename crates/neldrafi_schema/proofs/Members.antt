@@ -12,7 +12,7 @@ use Rattle.neldrafi_schema.specs.declared.places.Places.{Places}
 use Rattle.neldrafi_schema.specs.declared.problem.Problem.{Problem}
 use Rattle.neldrafi_schema.specs.machine.Compiled.{keyword_of}
 use Rattle.neldrafi_schema.specs.Paths.{Path, key}
-use Rattle.neldrafi_schema.specs.machine.Places.{Extends, Grown, IsTable, paths_of}
+use Rattle.neldrafi_schema.specs.machine.Places.{Extends, Grown, IsTable, scoped_paths}
 use Rattle.neldrafi_schema.specs.machine.Problems.{Notes, reason_of}
 use Rattle.neldrafi_schema.specs.declared.reading.Said.{Said}
 use Rattle.neldrafi_schema.specs.declared.reading.Said.TheVariants as said
@@ -24,6 +24,7 @@ use Rattle.neldrafi_schema.specs.Refusals.{keyword_problems, keywords_problems}
 use Rattle.neldrafi_schema.specs.machine.Said.{Always, IsSaidReady, Reads, meaningful, meaningful_one, said_keywords}
 use Rattle.neldrafi_schema.specs.Schemas.{Keyword, keywords, Reason, malformed}
 use Rattle.neldrafi_schema.specs.Documents.{Documents}
+use Rattle.neldrafi_schema.specs.Scopes.{Scope, ScopedPath}
 use Rattle.neldrafi_schema.proofs.Keeping.{all_more, extends_both, noted_both, nothing_noted}
 use Rattle.neldrafi_schema.proofs.Tables.{grown_both, grown_itself}
 
@@ -47,15 +48,15 @@ meaningful-append [] others = refl
 meaningful-append (k ∷ ks) others = ap (λ l. meaningful_one k ++ l) (meaningful-append ks others)
     ∙ sym (append_assoc (meaningful_one k) (meaningful ks) (meaningful others))
 
-module _ {E : Type 0} (outcome : E → List ℕ → Outcome) (s : Settings) (documents : Documents) (path : Path) (ms : Members) (start : Places) (old : Option Problem) where
+module _ {E : Type 0} (outcome : E → List ℕ → Outcome) (s : Settings) (documents : Documents) (scope : Scope) (path : Path) (ms : Members) (start : Places) (old : Option Problem) where
   -- what was read, with rest still to come
   pub record ReadSoFar (rest : Members) (places : Places) (first : Option Problem) (ks : List (CompiledKeyword E)) : Type 0 where
     pub said : List Keyword
-    pub goes_on : (all : List Path) → Extends (paths_of places.places.items) all → (later : List Keyword)
-        → MembersSay (numbered_by all) s documents path ms rest later → MembersSay (numbered_by all) s documents path ms ms (said ++ later)
+    pub goes_on : (all : List ScopedPath) → Extends (scoped_paths places.places.items) all → (later : List Keyword)
+        → MembersSay (numbered_by all scope) s documents scope path ms rest later → MembersSay (numbered_by all scope) s documents scope path ms ms (said ++ later)
     pub notes : Notes (keywords_problems path said) old first
     pub same : map (keyword_of outcome) ks ≡ meaningful said
-    pub ready : (all : List Path) → Extends (paths_of places.places.items) all → AllByRecursion (IsKeywordReady outcome (RestsOn outcome s.lists) (length all)) ks
+    pub ready : (all : List ScopedPath) → Extends (scoped_paths places.places.items) all → AllByRecursion (IsKeywordReady outcome (RestsOn outcome s.lists) (length all)) ks
     pub grown : Grown start places
 
   pub nothing_read : IsTable start → ReadSoFar ms start old []
@@ -71,30 +72,30 @@ module _ {E : Type 0} (outcome : E → List ℕ → Outcome) (s : Settings) (doc
   -- one member more
   pub read_more : (name : List ℕ) (d : Data) (rest : Members) (places next : Places) (first after : Option Problem) (ks more : List (CompiledKeyword E)) (says : List Keyword)
       → ReadSoFar (member name d rest) places first ks → Grown places next
-      → Always (paths_of next.places.items) (λ numbered. KnownSays numbered s documents path ms name (known_named s.draft ms name) d says)
+      → Always (scoped_paths next.places.items) scope (λ numbered. KnownSays numbered s documents scope path ms name (known_named s.draft ms name) d says)
       → Notes (keywords_problems path says) first after
       → map (keyword_of outcome) more ≡ map (keyword_of outcome) ks ++ meaningful says
-      → ((all : List Path) → Extends (paths_of next.places.items) all → AllByRecursion (IsKeywordReady outcome (RestsOn outcome s.lists) (length all)) ks
+      → ((all : List ScopedPath) → Extends (scoped_paths next.places.items) all → AllByRecursion (IsKeywordReady outcome (RestsOn outcome s.lists) (length all)) ks
       → AllByRecursion (IsKeywordReady outcome (RestsOn outcome s.lists) (length all)) more)
       → ReadSoFar rest next after more
   read_more name d rest places next first after ks more says read grown known notes same ready = record {
     said = read.said ++ says;
     goes_on = λ all extends later p.
-        subst (MembersSay (numbered_by all) s documents path ms ms) (sym (append_assoc read.said says later))
-        (read.goes_on all (extends_both (paths_of places.places.items) (paths_of next.places.items) all grown.extends extends) (says ++ later)
+        subst (MembersSay (numbered_by all scope) s documents scope path ms ms) (sym (append_assoc read.said says later))
+        (read.goes_on all (extends_both (scoped_paths places.places.items) (scoped_paths next.places.items) all grown.extends extends) (says ++ later)
         (says, later, known all extends, p, refl));
     notes = subst (λ l. Notes l old after) (sym (problems-append path read.said says))
         (noted_both (keywords_problems path read.said) (keywords_problems path says) old first after read.notes notes);
     same = same ∙ ap (λ l. l ++ meaningful says) read.same ∙ sym (meaningful-append read.said says);
     ready = λ all extends. ready all extends
-        (read.ready all (extends_both (paths_of places.places.items) (paths_of next.places.items) all grown.extends extends));
+        (read.ready all (extends_both (scoped_paths places.places.items) (scoped_paths next.places.items) all grown.extends extends));
     grown = grown_both start places next read.grown grown;
   }
 
   -- a member that says nothing
   pub read_nothing : (name : List ℕ) (d : Data) (rest : Members) (places next : Places) (first : Option Problem) (ks : List (CompiledKeyword E))
       → ReadSoFar (member name d rest) places first ks → Grown places next
-      → Always (paths_of next.places.items) (λ numbered. KnownSays numbered s documents path ms name (known_named s.draft ms name) d [])
+      → Always (scoped_paths next.places.items) scope (λ numbered. KnownSays numbered s documents scope path ms name (known_named s.draft ms name) d [])
       → ReadSoFar rest next first ks
   read_nothing name d rest places next first ks read grown known = read_more name d rest places next first first ks ks [] read grown known
       (nothing_noted first) (sym (append-nil (map (keyword_of outcome) ks))) (λ all extends is. is)
@@ -102,8 +103,8 @@ module _ {E : Type 0} (outcome : E → List ℕ → Outcome) (s : Settings) (doc
   -- one that is compiled
   pub read_keyword : (name : List ℕ) (d : Data) (rest : Members) (places next : Places) (first : Option Problem) (ks more : List (CompiledKeyword E)) (k : CompiledKeyword E)
       → ReadSoFar (member name d rest) places first ks → Grown places next
-      → Always (paths_of next.places.items) (λ numbered. KnownSays numbered s documents path ms name (known_named s.draft ms name) d (keyword_of outcome k ∷ []))
-      → ((all : List Path) → Extends (paths_of next.places.items) all → IsKeywordReady outcome (RestsOn outcome s.lists) (length all) k) → more ≡ ks ++ k ∷ []
+      → Always (scoped_paths next.places.items) scope (λ numbered. KnownSays numbered s documents scope path ms name (known_named s.draft ms name) d (keyword_of outcome k ∷ []))
+      → ((all : List ScopedPath) → Extends (scoped_paths next.places.items) all → IsKeywordReady outcome (RestsOn outcome s.lists) (length all) k) → more ≡ ks ++ k ∷ []
       → ReadSoFar rest next first more
   read_keyword name d rest places next first ks more k read grown known ready e =
       read_more name d rest places next first first ks more (keyword_of outcome k ∷ []) read grown known
@@ -115,7 +116,7 @@ module _ {E : Type 0} (outcome : E → List ℕ → Outcome) (s : Settings) (doc
   -- one that has no meaning
   pub read_malformed : (name : List ℕ) (d : Data) (rest : Members) (places next : Places) (first after : Option Problem) (ks : List (CompiledKeyword E)) (below : Path) (why : Reason)
       → ReadSoFar (member name d rest) places first ks → Grown places next
-      → Always (paths_of next.places.items) (λ numbered. KnownSays numbered s documents path ms name (known_named s.draft ms name) d (malformed below why ∷ []))
+      → Always (scoped_paths next.places.items) scope (λ numbered. KnownSays numbered s documents scope path ms name (known_named s.draft ms name) d (malformed below why ∷ []))
       → Notes ((path ++ below, why) ∷ []) first after → ReadSoFar rest next after ks
   read_malformed name d rest places next first after ks below why read grown known notes =
       read_more name d rest places next first after ks ks (malformed below why ∷ []) read grown known
@@ -124,10 +125,10 @@ module _ {E : Type 0} (outcome : E → List ℕ → Outcome) (s : Settings) (doc
   -- one member more, by what it came to
   module _ (name : List ℕ) (d : Data) (rest : Members) (places next : Places) (first after : Option Problem) (ks more : List (CompiledKeyword E)) (answer : Said E)
       (read : ReadSoFar (member name d rest) places first ks) (grown : Grown places next)
-      (says : Always (paths_of next.places.items) (λ numbered. KnownSays numbered s documents path ms name (known_named s.draft ms name) d (said_keywords outcome name answer)))
-      (ready : IsSaidReady outcome s.lists (paths_of next.places.items) answer) where
+      (says : Always (scoped_paths next.places.items) scope (λ numbered. KnownSays numbered s documents scope path ms name (known_named s.draft ms name) d (said_keywords outcome name answer)))
+      (ready : IsSaidReady outcome s.lists (scoped_paths next.places.items) answer) where
     abbrev Says : Said E → Type 0
-    Says o = Always (paths_of next.places.items) (λ numbered. KnownSays numbered s documents path ms name (known_named s.draft ms name) d (said_keywords outcome name o))
+    Says o = Always (scoped_paths next.places.items) scope (λ numbered. KnownSays numbered s documents scope path ms name (known_named s.draft ms name) d (said_keywords outcome name o))
 
     pub said_nothing : answer ≡ said.Nothing → after ≡ first → more ≡ ks → ReadSoFar rest next after more
     said_nothing is same are = rw (same, are) (read_nothing name d rest places next first ks read grown (subst Says is says))
@@ -135,7 +136,7 @@ module _ {E : Type 0} (outcome : E → List ℕ → Outcome) (s : Settings) (doc
     pub said_keyword : (k : CompiledKeyword E) (pushed : List (CompiledKeyword E)) → answer ≡ said.Keyword k → after ≡ first → more ≡ pushed
         → pushed ≡ ks ++ k ∷ [] → ReadSoFar rest next after more
     said_keyword k pushed is same are e = rw (same, are) (read_keyword name d rest places next first ks pushed k read grown (subst Says is says)
-        (subst (IsSaidReady outcome s.lists (paths_of next.places.items)) is ready) e)
+        (subst (IsSaidReady outcome s.lists (scoped_paths next.places.items)) is ready) e)
 
     pub said_malformed : (kind : SchemaErrorKind) (noted : Option Problem) (at : Path) → answer ≡ said.Malformed kind → after ≡ noted → more ≡ ks
         → at ≡ path ++ key name ∷ []
@@ -153,10 +154,10 @@ module _ {E : Type 0} (outcome : E → List ℕ → Outcome) (s : Settings) (doc
 
   -- the whole object was read
   pub read_all : (places : Places) (first : Option Problem) (ks : Vec (CompiledKeyword E) Global) → ReadSoFar no_members places first ks.items
-      → Reads outcome s.lists (λ numbered said. BodySays numbered s documents path (object ms) said) path (paths_of places.places.items) old first (body.Keywords ks)
+      → Reads outcome s.lists (λ numbered said. BodySays numbered s documents scope path (object ms) said) scope path (scoped_paths places.places.items) old first (body.Keywords ks)
   read_all places first ks read = record {
     said = keywords read.said;
-    means = λ all extends. (read.said, subst (MembersSay (numbered_by all) s documents path ms ms) (append-nil read.said) (read.goes_on all extends [] refl), refl);
+    means = λ all extends. (read.said, subst (MembersSay (numbered_by all scope) s documents scope path ms ms) (append-nil read.said) (read.goes_on all extends [] refl), refl);
     notes = read.notes;
     same = ap keywords read.same;
     ready = read.ready;

@@ -1,20 +1,21 @@
 -- Problems that are noted, one after the other.
-use Rattle.std.proofs.Common.{◌≡◌, ℕ, zero, suc, ◌+◌, ◌<◌, List, [], ◌∷◌, ◌++◌, length, get_or, take, map, refl, sym, ap, ◌∙◌, subst, append_assoc, append-nil, Some, Option, Bool, true, false, add-one, Vec, Global}
+use Rattle.std.proofs.Common.{◌≡◌, ℕ, zero, suc, ◌+◌, ◌<◌, List, [], ◌∷◌, ◌++◌, length, get_or, take, map, refl, sym, ap, ◌∙◌, subst, append_assoc, append-nil, Some, None, Option, Bool, add-one, Vec, Global}
 use Rattle.std.proofs.lemmas.List.{map-append}
-use Rattle.std.specs.Prelude.{slice_get, if◌then◌else◌}
+use Rattle.std.specs.Prelude.{option_map, slice_get}
+use Rattle.std.specs.Borrow.{Bor}
 use Rattle.strkw_pattern.specs.declared.engine.Outcome.{Outcome}
 use Rattle.neldrafi_schema.specs.declared.node.Body.{Body as CompiledBody}
 use Rattle.neldrafi_schema.specs.declared.node.Body.TheVariants as body
 use Rattle.neldrafi_schema.specs.declared.node.Keyword.{Keyword as CompiledKeyword}
 use Rattle.neldrafi_schema.specs.declared.node.Node.{Node}
-use Rattle.neldrafi_schema.specs.declared.places.Place.{Place}
+use Rattle.neldrafi_schema.specs.declared.places.ScopedPlace.{ScopedPlace}
 use Rattle.neldrafi_schema.specs.declared.problem.Problem.{Problem}
-use Rattle.neldrafi_schema.specs.Paths.{Path}
+use Rattle.neldrafi_schema.specs.Paths.{Path, key}
 use Rattle.neldrafi_schema.specs.Refusals.{Problem as Refused, body_endless, keyword_endless, keywords_endless, schemas_endless}
-use Rattle.neldrafi_schema.specs.Schemas.{Keyword, Schema}
+use Rattle.neldrafi_schema.specs.Schemas.{Keyword, Schema, circular_reference}
 use Rattle.neldrafi_schema.specs.machine.Compiled.{body_of, keyword_of, schema_of, schemas_of}
 use Rattle.neldrafi_schema.specs.machine.Places.{paths_of, place_path}
-use Rattle.neldrafi_schema.specs.machine.Problems.{Notes}
+use Rattle.neldrafi_schema.specs.machine.Problems.{Notes, endless_at}
 use Rattle.neldrafi_schema.proofs.Endings.{schema_there}
 use Rattle.neldrafi_schema.proofs.Keeping.{noted_both, nothing_noted}
 use Rattle.neldrafi_schema.proofs.Lists.{take_one}
@@ -67,15 +68,19 @@ no_keywords outcome end path body.Never none = refl
 no_keywords outcome end path (body.Keywords ks) none = absurd (none ks refl)
 
 -- what a test of a keyword says
-module _ (problem : Refused) (all : List Refused) (b : Bool) (says : all ≡ (if b then problem ∷ [] else [])) (old new : Option Problem) where
-  pub it_is_noted : (mid : Option Problem) (noted : Refused) → b ≡ true → noted ≡ problem → new ≡ mid → Notes (noted ∷ []) old mid → Notes all old new
-  it_is_noted mid noted holds same is notes = rw (says, holds, ← same, is) notes
+module _ (path : Path) (all : List Refused) (o : Option (Bor (List ℕ))) (says : all ≡ endless_at path (option_map (λ name. name.now) o)) (old new : Option Problem) where
+  pub it_is_noted : (name : Bor (List ℕ)) (mid : Option Problem) (at : Path) → o ≡ Some name → at ≡ path ++ key name.now ∷ [] → new ≡ mid
+      → Notes ((at, circular_reference) ∷ []) old mid → Notes all old new
+  it_is_noted name mid at some there is notes = rw (says, some, is) (subst (λ p. Notes ((p, circular_reference) ∷ []) old mid) there notes)
 
-  pub none_is_noted : b ≡ false → new ≡ old → Notes all old new
-  none_is_noted fails is = rw (says, fails, is) (nothing_noted old)
+  pub none_is_noted : ((name : Bor (List ℕ)) → o ≡ Some name → ⊥) → new ≡ old → Notes all old new
+  none_is_noted none is = by o refl where
+    by : (p : Option (Bor (List ℕ))) → o ≡ p → Notes all old new
+    by None e = rw (says, e, is) (nothing_noted old)
+    by (Some name) e = absurd (none name e)
 
 -- those of one node more
-module _ {E : Type 0} (outcome : E → List ℕ → Outcome) (end : ℕ → Bool) (nodes : List (Node E)) (places : List Place) (i : ℕ) (node : Node E) (is : node ≡ get_or nodes i node)
+module _ {E : Type 0} (outcome : E → List ℕ → Outcome) (end : ℕ → Bool) (nodes : List (Node E)) (places : List ScopedPlace) (i : ℕ) (node : Node E) (is : node ≡ get_or nodes i node)
     (h : i < length nodes) (inside : i < length places) (old mid new : Option Problem)
     (before : Notes (schemas_endless end (take i (paths_of places)) (take i (schemas_of outcome nodes))) old mid) where
   one_node : (path : Path) → slice_get (paths_of places) i ≡ Some path → Notes (body_endless end path (body_of outcome node.body)) mid new
@@ -83,8 +88,8 @@ module _ {E : Type 0} (outcome : E → List ℕ → Outcome) (end : ℕ → Bool
   one_node path at =
       schema_noted end (paths_of places) (schemas_of outcome nodes) i path (schema_of outcome node) old mid new at (schema_there outcome nodes i node h is) before
 
-  pub node_noted : (place : Place) (path : Path) (ks : Vec (CompiledKeyword E) Global) (items : List (CompiledKeyword E)) (noted : Option Problem)
-      → place ≡ get_or places i place → path ≡ place_path place
+  pub node_noted : (place : ScopedPlace) (path : Path) (ks : Vec (CompiledKeyword E) Global) (items : List (CompiledKeyword E)) (noted : Option Problem)
+      → place ≡ get_or places i place → path ≡ place_path place.place
       → (get_or nodes i node).body ≡ body.Keywords ks → items ≡ ks.items → new ≡ noted → Notes (keywords_endless end path (map (keyword_of outcome) items)) mid noted
       → Notes (schemas_endless end (take (i + 1) (paths_of places)) (take (i + 1) (schemas_of outcome nodes))) old new
   node_noted place path ks items noted at same has read are notes =

@@ -1,17 +1,20 @@
 -- The derived order of segments is that of the definitions.
-use Rattle.std.proofs.Common.{◌≡◌, List, [], ◌∷◌, ap, eqb-true, refl, sym, true, false, string_bytes}
+use Rattle.std.proofs.Common.{◌≡◌, List, [], ◌∷◌, ap, eqb-true, refl, sym, true, false, String, string_bytes}
 use Rattle.std.proofs.Math.Path.{ap₂}
 use Rattle.std.proofs.lemmas.Bool.{false≢true}
 use Rattle.std.specs.Prelude.{◌&&◌, Bool}
 use Rattle.std.specs.Cmp.Lexicographic.{pointwise, same_text}
 use Rattle.std.specs.Cmp.Lexicographic.{slice_cmp}
 use Rattle.std.specs.declared.cmp.Ordering.{Ordering}
+use Rattle.std.specs.String.{string_eq}
+use Rattle.std.specs.declared.alloc.Global.{Global}
 use Rattle.neldrafi_schema.specs.declared.segment.Segment.{Segment}
 use Rattle.neldrafi_schema.specs.declared.segment.Segment.TheVariants.{Key, Place, Document}
 use Rattle.neldrafi_schema.specs.contracts.segment.SegmentOrd.TheImpl.{cmp-value}
 use Rattle.neldrafi_schema.specs.contracts.segment.SegmentPartialEq.TheImpl.{eq-value}
 use Rattle.neldrafi_schema.specs.Paths.{key, place, document, segment_cmp}
 use Rattle.neldrafi_schema.specs.machine.Compiled.{path_of, segment_of}
+use Rattle.neldrafi_schema.specs.machine.Places.{scope_of}
 
 slices_alike : {A : Type 0} (R S : A → A → Ordering) → ((a b : A) → R a b ≡ S a b) → (xs ys : List A) → slice_cmp R xs ys ≡ slice_cmp S xs ys
 slices_alike R S same [] [] = refl
@@ -38,6 +41,15 @@ same_segment a b e = absurd (false≢true e)
 both : (a b : Bool) → (a && b) ≡ true → (a ≡ true) × (b ≡ true)
 both true b e = (refl, e)
 both false b e = absurd (false≢true e)
+
+-- and so are scopes
+pub same_scopes : (a b : List (String Global)) → pointwise string_eq a b ≡ true → scope_of a ≡ scope_of b
+same_scopes [] [] e = refl
+same_scopes [] (y ∷ ys) e = absurd (false≢true e)
+same_scopes (x ∷ xs) [] e = absurd (false≢true e)
+same_scopes (x ∷ xs) (y ∷ ys) e =
+    let parts = both (string_eq x y) (pointwise string_eq xs ys) e in
+    ap₂ (λ uri scope. uri ∷ scope) (same_text (string_bytes x) (string_bytes y) (sym parts.0)) (same_scopes xs ys parts.1)
 
 pub same_paths : (a b : List Segment) → pointwise eq-value.it a b ≡ true → path_of a ≡ path_of b
 same_paths [] [] e = refl

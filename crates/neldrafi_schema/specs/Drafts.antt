@@ -5,7 +5,7 @@ use Rattle.std.specs.List.{list_all, list_any}
 use Rattle.std.specs.Char.{is_ascii_alphanumeric, is_ascii_alphabetic}
 use Rattle.std.specs.Str.{byte, bytes_eq}
 use Rattle.serde_json.specs.Data.{Data, Members}
-use Rattle.serde_json.specs.Find.{get, get_member, as_str}
+use Rattle.serde_json.specs.Find.{get, get_member, as_bool, as_str}
 use Rattle.strkw_report.specs.declared.draft.Draft.{Draft}
 use Rattle.strkw_report.specs.declared.draft.Draft.TheVariants.{Draft4, Draft6, Draft7, Draft201909, Draft202012}
 use Rattle.strkw_keywords.specs.declared.keyword.Keyword.TheVariants as text
@@ -50,6 +50,10 @@ named name =
     else (if bytes_eq name (codes "id") then known.Draft4Identifier
     else (if bytes_eq name (codes "$id") then known.Identifier
     else (if bytes_eq name (codes "$anchor") then known.Anchor
+    else (if bytes_eq name (codes "$dynamicRef") then known.DynamicReference
+    else (if bytes_eq name (codes "$dynamicAnchor") then known.DynamicAnchor
+    else (if bytes_eq name (codes "$recursiveRef") then known.RecursiveReference
+    else (if bytes_eq name (codes "$recursiveAnchor") then known.RecursiveAnchor
     else (if bytes_eq name (codes "type") then known.Types
     else (if bytes_eq name (codes "enum") then known.Enumeration
     else (if bytes_eq name (codes "const") then known.Constant
@@ -92,7 +96,7 @@ named name =
     else (if bytes_eq name (keyword_name text.MinLength) then known.Text text.MinLength
     else (if bytes_eq name (keyword_name text.MaxLength) then known.Text text.MaxLength
     else (if bytes_eq name (keyword_name text.Pattern) then known.Text text.Pattern
-    else known.Unknown))))))))))))))))))))))))))))))))))))))))))))))
+    else known.Unknown))))))))))))))))))))))))))))))))))))))))))))))))))
 
 -- drafts in their order
 abbrev pub draft_number : Draft → ℕ
@@ -112,18 +116,24 @@ since known.If = Draft7
 since known.Then = Draft7
 since known.Else = Draft7
 since known.Anchor = Draft201909
+since known.RecursiveReference = Draft201909
+since known.RecursiveAnchor = Draft201909
 since known.ContainsCount = Draft201909
 since known.DependentRequired = Draft201909
 since known.DependentSchemas = Draft201909
 since known.Defs = Draft201909
 since (known.Unevaluated p) = Draft201909
 since known.PrefixItems = Draft202012
+since known.DynamicReference = Draft202012
+since known.DynamicAnchor = Draft202012
 since keyword = Draft4
 
 abbrev pub until : Known → Draft
 until known.Draft4Identifier = Draft4
 until known.Dependencies = Draft7
 until known.AdditionalItems = Draft201909
+until known.RecursiveReference = Draft201909
+until known.RecursiveAnchor = Draft201909
 until keyword = Draft202012
 
 abbrev pub has_keyword : Draft → Known → Bool
@@ -174,9 +184,21 @@ abbrev pub identifier_in : Draft → Members → Option (List ℕ)
 identifier_in draft ms = if has_lone_reference draft ms then None
     else option_and_then as_str (get_member (identifier_name draft) ms)
 
+-- the text of a keyword of the object ms, in the drafts that have it
+abbrev pub name_in : Draft → Known → List ℕ → Members → Option (List ℕ)
+name_in draft keyword name ms = if has_keyword draft keyword
+    then option_and_then as_str (get_member name ms) else None
+
 abbrev pub anchor_in : Draft → Members → Option (List ℕ)
-anchor_in draft ms = if has_keyword draft known.Anchor
-    then option_and_then as_str (get_member (codes "$anchor") ms) else None
+anchor_in draft ms = name_in draft known.Anchor (codes "$anchor") ms
+
+abbrev pub dynamic_anchor_in : Draft → Members → Option (List ℕ)
+dynamic_anchor_in draft ms = name_in draft known.DynamicAnchor (codes "$dynamicAnchor") ms
+
+-- whether `$recursiveAnchor` of the object ms is `true` (2019-09, Core, section 8.2.4.2.2)
+abbrev pub is_recursive : Draft → Members → Bool
+is_recursive draft ms = has_keyword draft known.RecursiveAnchor
+    && unwrap_or (option_and_then as_bool (get_member (codes "$recursiveAnchor") ms)) false
 
 abbrev pub is_any_of : List ℕ → ℕ → Bool
 is_any_of characters c = list_any (λ b. b == c) characters

@@ -8,6 +8,7 @@ pub mod Explanations
 pub mod Rules
 pub mod Documents
 pub mod Resources
+pub mod Scopes
 pub mod References
 pub mod Drafts
 pub mod Values

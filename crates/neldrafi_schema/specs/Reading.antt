@@ -18,6 +18,7 @@ use Rattle.neldrafi_schema.specs.Documents.{Documents, value_in}
 use Rattle.neldrafi_schema.specs.Drafts.{is_draft_4, known_named}
 use Rattle.neldrafi_schema.specs.Values.{Lead, Sense, nothing, says, refused, sense, reference_sense, member_leads}
 use Rattle.neldrafi_schema.specs.References.{schema_referred}
+use Rattle.neldrafi_schema.specs.Scopes.{Scope, ScopedPath, entered}
 use Rattle.neldrafi_schema.specs.Settings.{document_settings, keyword_settings}
 use Rattle.neldrafi_schema.specs.Schemas.{Reason, wrong_type, by_string_keyword, matching, Branch}
 use Rattle.neldrafi_schema.specs.Schemas.{Keyword, rule, string_keyword, malformed}
@@ -102,49 +103,60 @@ PatternPropertiesSay numbered s path name (Some ms) ks = (found : Patterns)
 -- ---- the members of the schema object at a path
 
 -- what a member of the object ms comes to
-abbrev pub KnownSays : Numbered → Settings → Documents → Path → Members → List ℕ → Known → Data
+abbrev pub KnownSays : Numbered → Settings → Documents → Scope → Path → Members → List ℕ → Known → Data
     → List Keyword → Type 0
-KnownSays numbered s documents path ms name known.PatternProperties d ks =
+KnownSays numbered s documents scope path ms name known.PatternProperties d ks =
     PatternPropertiesSay numbered s path name (as_object d) ks
-KnownSays numbered s documents path ms name known.Reference d ks = SenseSays numbered name
-    (reference_sense (schema_referred s.draft documents path) d) ks
-KnownSays numbered s documents path ms name (known.Text k) d ks =
+KnownSays numbered s documents scope path ms name known.Reference d ks =
+    SenseSays numbered name (reference_sense (schema_referred s.draft documents [] path) d) ks
+KnownSays numbered s documents scope path ms name known.DynamicReference d ks =
+    SenseSays numbered name (reference_sense (schema_referred s.draft documents scope path) d) ks
+KnownSays numbered s documents scope path ms name known.RecursiveReference d ks =
+    SenseSays numbered name (reference_sense (schema_referred s.draft documents scope path) d) ks
+KnownSays numbered s documents scope path ms name (known.Text k) d ks =
     TextSays (keyword_settings s path k) (key name ∷ []) k d ks
-KnownSays numbered s documents path ms name other d ks =
+KnownSays numbered s documents scope path ms name other d ks =
     SenseSays numbered name (sense s.draft ms path (path ++ key name ∷ []) other d) ks
 
 -- member by member, in the order of the document
-abbrev pub MembersSay : Numbered → Settings → Documents → Path → Members → Members → List Keyword → Type 0
-MembersSay numbered s documents path ms no_members ks = ks ≡ []
-MembersSay numbered s documents path ms (member name d rest) ks = (first : List Keyword)
+abbrev pub MembersSay : Numbered → Settings → Documents → Scope → Path → Members → Members
+    → List Keyword → Type 0
+MembersSay numbered s documents scope path ms no_members ks = ks ≡ []
+MembersSay numbered s documents scope path ms (member name d rest) ks = (first : List Keyword)
     × (later : List Keyword)
-    × KnownSays numbered s documents path ms name (known_named s.draft ms name) d first
-    × MembersSay numbered s documents path ms rest later × (ks ≡ first ++ later)
+    × KnownSays numbered s documents scope path ms name (known_named s.draft ms name) d first
+    × MembersSay numbered s documents scope path ms rest later × (ks ≡ first ++ later)
 
 -- draft 4 has no booleans for schemas
-abbrev pub BodySays : Numbered → Settings → Documents → Path → Data → Body → Type 0
-BodySays numbered s documents path (boolean b) body =
+abbrev pub BodySays : Numbered → Settings → Documents → Scope → Path → Data → Body → Type 0
+BodySays numbered s documents scope path (boolean b) body =
     body ≡ (if is_draft_4 s.draft then neither else (if b then always else never))
-BodySays numbered s documents path (object ms) body = (ks : List Keyword)
-    × MembersSay numbered s documents path ms ms ks × (body ≡ keywords ks)
-BodySays numbered s documents path other body = body ≡ neither
+BodySays numbered s documents scope path (object ms) body = (ks : List Keyword)
+    × MembersSay numbered s documents scope path ms ms ks × (body ≡ keywords ks)
+BodySays numbered s documents scope path other body = body ≡ neither
 
--- the schema at a path says this
-pub record SchemaSays (numbered : Numbered) (s : Settings) (documents : Documents) (path : Path)
+-- which number stands for the schema at a path, entered from this scope
+abbrev pub numbered_by : List ScopedPath → Scope → Numbered
+numbered_by paths scope n path = slice_get paths n ≡ Some (record { scope = scope; path = path })
+
+-- The schema at a path, entered from a scope, says this. Those to which it leads are entered from the
+-- scope in it.
+pub record SchemaSays (paths : List ScopedPath) (s : Settings) (documents : Documents) (at : ScopedPath)
     (body : Body) : Type 0 where
   pub value : Data
-  pub stands : value_in documents path ≡ Some value
-  pub says : BodySays numbered s documents path value body
+  pub stands : value_in documents at.path ≡ Some value
+  pub says : let scope = entered s.draft documents at.scope at.path in
+      BodySays (numbered_by paths scope) s documents scope at.path value body
 
--- a number stands for the schema at the path of that number
-abbrev pub numbered_by : List Path → Numbered
-numbered_by paths n path = slice_get paths n ≡ Some path
+abbrev pub paths_in : List ScopedPath → List Path
+paths_in paths = map (λ at. at.path) paths
 
--- The documents say this list: the schemas at these paths, the first of which is the root of the first.
+-- The documents say this list: the schemas at these paths, the first of which is the root of the
+-- first, entered from no scope. A schema is in the list once for each scope from which it is entered.
 pub record Says (s : Settings) (documents : Documents) (schemas : List Schema) : Type 0 where
-  pub paths : List Path
-  pub located : map (λ t. t.location) schemas ≡ map location_of paths
-  pub root : slice_get paths 0 ≡ Some (document 0 ∷ [])
-  pub each : (n : ℕ) (path : Path) (t : Schema) → slice_get paths n ≡ Some path
+  pub paths : List ScopedPath
+  pub located : map (λ t. t.location) schemas ≡ map location_of (paths_in paths)
+  pub root : slice_get paths 0 ≡ Some (record { scope = []; path = document 0 ∷ [] })
+  pub each : (n : ℕ) (at : ScopedPath) (t : Schema) → slice_get paths n ≡ Some at
       → slice_get schemas n ≡ Some t
-      → SchemaSays (numbered_by paths) (document_settings s documents.schema) documents path t.body
+      → SchemaSays paths (document_settings s documents.schema) documents at t.body

@@ -15,6 +15,7 @@ use Rattle.neldrafi_uri.specs.Resolution.{resolved}
 use Rattle.neldrafi_schema.specs.Paths.{Path, Segment, key, place, child}
 use Rattle.neldrafi_schema.specs.Resources.{Identifier, all_identifiers, base_among, identified}
 use Rattle.neldrafi_schema.specs.Documents.{Documents, value_in}
+use Rattle.neldrafi_schema.specs.Scopes.{Scope, dynamic_resource}
 
 -- digits, with no 0 before another
 abbrev pub is_place : List ℕ → Bool
@@ -78,13 +79,16 @@ abbrev pub path_of_fragment : Documents → List Identifier → List ℕ → Lis
 path_of_fragment documents ids uri fragment = if is_pointer fragment
     then path_in documents ids uri [] fragment else path_in documents ids uri fragment []
 
-abbrev pub path_of_uri : Documents → List Identifier → List ℕ → Option (List ℕ) → Option Path
-path_of_uri documents ids uri fragment =
-    option_and_then (path_of_fragment documents ids uri) (decoded (unwrap_or fragment []))
+abbrev pub path_of_uri : Documents → List Identifier → Scope → List ℕ → Option (List ℕ) → Option Path
+path_of_uri documents ids scope uri fragment = option_and_then
+    (λ name. path_of_fragment documents ids (dynamic_resource ids scope name uri) name)
+    (decoded (unwrap_or fragment []))
 
--- what a reference in the schema at a path names
-abbrev pub path_of_reference : Draft → Documents → Path → List ℕ → Option Path
-path_of_reference draft documents path text = path_of_uri documents (all_identifiers draft documents)
+-- what a dynamic reference in the schema at a path names in this scope; any other reference is as one
+-- in no scope
+abbrev pub path_of_reference : Draft → Documents → Scope → Path → List ℕ → Option Path
+path_of_reference draft documents scope path text =
+    path_of_uri documents (all_identifiers draft documents) scope
     (resolved (base_among draft documents path) (without_fragment text)) (fragment_of text)
 
 -- a schema is an object or a boolean (Core 2020-12, section 4.3)
@@ -100,7 +104,7 @@ abbrev pub if_schema : Path → Data → Option Path
 if_schema path d = if is_schema d then Some path else None
 
 -- the path to the schema to which a reference in the schema at a path leads
-abbrev pub schema_referred : Draft → Documents → Path → List ℕ → Option Path
-schema_referred draft documents path text = option_and_then
+abbrev pub schema_referred : Draft → Documents → Scope → Path → List ℕ → Option Path
+schema_referred draft documents scope path text = option_and_then
     (λ found. option_and_then (if_schema found) (value_in documents found))
-    (path_of_reference draft documents path text)
+    (path_of_reference draft documents scope path text)

@@ -9,8 +9,7 @@ use Rattle.neldrafi_schema.specs.Schemas.{Rule, reference, all_of, dependent, ne
 use Rattle.neldrafi_schema.specs.Schemas.{where_valid, where_not_valid, condition, Branch, Keyword, rule, malformed}
 use Rattle.neldrafi_schema.specs.Schemas.{Body, always, never, keywords, neither, Schema}
 use Rattle.neldrafi_schema.specs.Documents.{Documents, uri_at}
-use Rattle.neldrafi_schema.specs.Drafts.{reference_name}
-use Rattle.neldrafi_schema.specs.Reading.{Says}
+use Rattle.neldrafi_schema.specs.Reading.{Says, paths_in}
 
 -- a reason, and the path to the value that is refused
 abbrev pub Problem : Type 0
@@ -87,7 +86,7 @@ is_reference other = false
 abbrev pub keyword_endless : (ℕ → Bool) → Path → Keyword → List Problem
 keyword_endless end path (rule name r bs) =
     if not (is_reference r) || list_all end (schemas_in bs) then []
-    else (path ++ key reference_name ∷ [], circular_reference) ∷ []
+    else (path ++ key name ∷ [], circular_reference) ∷ []
 keyword_endless end path other = []
 
 abbrev pub keywords_endless : (ℕ → Bool) → Path → List Keyword → List Problem
@@ -122,7 +121,7 @@ pub record IsFirst (all : List Problem) (p : Problem) : Type 0 where
 -- the documents say these schemas, none of which is refused
 pub record IsSaid (s : Settings) (documents : Documents) (schemas : List Schema) : Type 0 where
   pub says : Says s documents schemas
-  pub sound : refused says.paths schemas ≡ []
+  pub sound : refused (paths_in says.paths) schemas ≡ []
 
 -- they are refused for this reason, at this location of the document of this URI
 pub record IsRefused (s : Settings) (documents : Documents) (why : Reason)
@@ -130,6 +129,6 @@ pub record IsRefused (s : Settings) (documents : Documents) (why : Reason)
   pub schemas : List Schema
   pub says : Says s documents schemas
   pub path : Path
-  pub first : IsFirst (refused says.paths schemas) (path, why)
+  pub first : IsFirst (refused (paths_in says.paths) schemas) (path, why)
   pub within : uri ≡ uri_at documents path
   pub stands : location ≡ location_of path

@@ -1,6 +1,7 @@
 -- The URIs by which the schemas of a document are known (Core 2020-12, section 8.2; draft 7, Core,
 -- section 8.2).
-use Rattle.std.specs.Prelude.{ℕ, suc, List, [], ◌∷◌, ◌++◌, map, ◌&&◌, Option, Some, None, if◌then◌else◌}
+use Rattle.std.specs.Prelude.{ℕ, suc, List, [], ◌∷◌, ◌++◌, map, Bool, true, false, ◌&&◌, Option, Some, None}
+use Rattle.std.specs.Prelude.{if◌then◌else◌}
 use Rattle.std.specs.Prelude.{option_map, unwrap_or}
 use Rattle.std.specs.Str.{bytes_eq}
 use Rattle.serde_json.specs.Data.{Data, array, object}
@@ -12,16 +13,22 @@ use Rattle.neldrafi_schema.specs.declared.known.Known.{Known}
 use Rattle.neldrafi_schema.specs.declared.known.Known.TheVariants as known
 use Rattle.neldrafi_schema.specs.declared.known.Holding.{Holding}
 use Rattle.neldrafi_schema.specs.declared.known.Holding.TheVariants as held
-use Rattle.neldrafi_schema.specs.Drafts.{anchor_in, identifier_in, known_named}
+use Rattle.neldrafi_schema.specs.Drafts.{anchor_in, dynamic_anchor_in, identifier_in, is_recursive}
+use Rattle.neldrafi_schema.specs.Drafts.{known_named}
 use Rattle.neldrafi_schema.specs.Paths.{Path, key, place, document, child}
 use Rattle.neldrafi_schema.specs.Documents.{Document, Documents, document_at, schema_uri}
 use Rattle.neldrafi_schema.specs.Rules.{option_list}
 
--- a URI without a fragment, a plain name in it, which is empty for the resource itself, and the path
--- to the schema that they identify
+-- a plain name, which is empty for the resource itself, and whether dynamic references may lead to it
+-- from other resources
+abbrev pub Anchor : Type 0
+Anchor = List ℕ × Bool
+
+-- a URI without a fragment, a plain name in it, and the path to the schema that they identify
 pub record Identifier : Type 0 where
   pub uri : List ℕ
   pub anchor : List ℕ
+  pub is_dynamic : Bool
   pub path : Path
 
 -- ---- base URIs (Core 2020-12, sections 8.2.1 and 9.1.1)
@@ -81,14 +88,24 @@ held_by held.ByKey one members = members
 
 -- ---- identifiers
 
--- of `$id`, and the plain names: its fragment up to draft 7, and `$anchor`
-abbrev pub anchors_of : Option (List ℕ) → List (List ℕ)
-anchors_of (Some id) = [] ∷ option_list (fragment_of id)
-anchors_of None = []
+abbrev pub named_anchors : Bool → Option (List ℕ) → List Anchor
+named_anchors is_dynamic name = map (λ anchor. (anchor, is_dynamic)) (option_list name)
+
+-- of `$id`: the resource, to which `$recursiveAnchor` speaks, and up to draft 7 the fragment
+abbrev pub resource_anchors : Bool → Option (List ℕ) → List Anchor
+resource_anchors recursive (Some id) = ([], recursive) ∷ named_anchors false (fragment_of id)
+resource_anchors recursive None = []
+
+-- and the plain names of `$anchor` and `$dynamicAnchor`
+abbrev pub own_anchors : Draft → Members → List Anchor
+own_anchors draft ms = resource_anchors (is_recursive draft ms) (identifier_in draft ms)
+    ++ named_anchors false (anchor_in draft ms) ++ named_anchors true (dynamic_anchor_in draft ms)
+
+abbrev pub identifier : List ℕ → Path → Anchor → Identifier
+identifier uri path a = record { uri = uri; anchor = a.0; is_dynamic = a.1; path = path }
 
 abbrev pub own_identifiers : Draft → List ℕ → Path → Members → List Identifier
-own_identifiers draft base path ms = map (λ anchor. record { uri = base; anchor = anchor; path = path })
-    (anchors_of (identifier_in draft ms) ++ option_list (anchor_in draft ms))
+own_identifiers draft base path ms = map (identifier base path) (own_anchors draft ms)
 
 -- Those of the schema at a path and below it, whose base URI this is, in the order of the document.
 abbrev mutual
@@ -121,9 +138,13 @@ abbrev mutual
   of_each draft base path (member name d ms) =
       identifiers draft base (path ++ key name ∷ []) d ++ of_each draft base path ms
 
+abbrev pub recurs : Draft → Data → Bool
+recurs draft (object ms) = is_recursive draft ms
+recurs draft other = false
+
 -- those of the document of a number, which is known by a URI
 abbrev pub document_identifiers : Draft → ℕ → List ℕ → Data → List Identifier
-document_identifiers draft n uri value = record { uri = uri; anchor = []; path = document n ∷ [] }
+document_identifiers draft n uri value = identifier uri (document n ∷ []) ([], recurs draft value)
     ∷ identifiers draft uri (document n ∷ []) value
 
 abbrev pub further_identifiers : Draft → ℕ → List Document → List Identifier

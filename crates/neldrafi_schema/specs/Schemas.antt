@@ -38,7 +38,7 @@ pub data Rule : Type 0 where
   sized : Size → ℕ → Rule
   distinct : Rule
   required : List (List ℕ) → Rule
-  -- each schema is of the whole instance: always, or where the member of its key is there
+  -- each schema is of the whole instance: that of a reference, all, or where the member of its key is there
   reference : Rule
   all_of : Rule
   dependent : List Dependency → Rule

@@ -191,7 +191,7 @@ abbrev pub target_sense : Option Path → Sense
 target_sense (Some path) = says reference (lead_to path)
 target_sense None = refused unresolved_reference
 
--- `$ref`, by the path to which each reference leads
+-- a reference, by the path to which each text leads
 abbrev pub reference_sense : (List ℕ → Option Path) → Data → Sense
 reference_sense referred d = of_kind (λ text. target_sense (referred text)) (as_str d)
 
@@ -245,6 +245,8 @@ sense draft ms path at known.Dialect d = of_kind dialect_sense (as_str d)
 sense draft ms path at known.Draft4Identifier d = of_kind (identifier_sense draft) (as_str d)
 sense draft ms path at known.Identifier d = of_kind (identifier_sense draft) (as_str d)
 sense draft ms path at known.Anchor d = of_kind (anchor_sense draft) (as_str d)
+sense draft ms path at known.DynamicAnchor d = of_kind (anchor_sense draft) (as_str d)
+sense draft ms path at known.RecursiveAnchor d = of_kind (λ b. nothing) (as_bool d)
 sense draft ms path at known.Types d =
     of_kind (λ ts. says (types (not (is_draft_4 draft)) ts) []) (types_in d)
 sense draft ms path at known.Enumeration d =

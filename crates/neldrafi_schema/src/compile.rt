@@ -86,12 +86,13 @@ fn nodes_of<B: EngineBuilder>(
     let mut nodes = Vec::new(alloc);
     let mut first = None;
     for number in 0..usize::MAX {
-        let Some(place) = places.places.get(number) else {
+        let Some(known) = places.places.get(number) else {
             break;
         };
-        let path = path_copy(alloc, &place.path)?;
-        let value = place.value;
-        let node = reader.read_schema(&path, value, &mut places, &mut first)?;
+        let path = path_copy(alloc, &known.place.path)?;
+        let scope = library.entered(alloc, &known.scope, &path)?;
+        let value = known.place.value;
+        let node = reader.read_schema(&scope, &path, value, &mut places, &mut first)?;
         nodes.push(node)?;
     }
     let end = ending(alloc, &nodes)?;

@@ -1,19 +1,17 @@
 //! References that lead back to themselves, and do not enter the instance on the way.
 
-ghost use Rattle.std.specs.Prelude.{◌≡◌, ◌++◌, ◌∷◌, ℕ, IfOk, OnOk, [], if◌then◌else◌, length, map, slice_get};
-ghost use Rattle.neldrafi_schema.specs.Paths.{Path, key};
-ghost use Rattle.neldrafi_schema.specs.Drafts.{reference_name};
-ghost use Rattle.neldrafi_schema.specs.Schemas.{circular_reference};
+ghost use Rattle.std.specs.Prelude.{◌≡◌, ℕ, IfOk, OnOk, length, map, option_map, slice_get};
+ghost use Rattle.neldrafi_schema.specs.Paths.{Path};
 ghost use Rattle.neldrafi_schema.specs.machine.Compiled.{body_of, branches_of, keyword_of, schemas_of};
 ghost use Rattle.neldrafi_schema.specs.machine.Compiled.{path_of};
 ghost use Rattle.neldrafi_schema.specs.machine.Places.{paths_of};
-ghost use Rattle.neldrafi_schema.specs.machine.Problems.{Notes};
+ghost use Rattle.neldrafi_schema.specs.machine.Problems.{Notes, endless_at};
 ghost use Rattle.neldrafi_schema.specs.Refusals.{body_ends, ends, in_place, keyword_endless, keywords_endless, schema_ends, schemas_endless, schemas_in};
 ghost use Rattle.neldrafi_schema.specs.machine.Said.{flag_at};
 ghost use Rattle.std.specs.List.{list_all};
 
 use crate::node::{Body, Branch, Keyword, Node, Rule};
-use crate::places::{Place, path_below};
+use crate::places::{ScopedPlace, path_below};
 use crate::problem::Problem;
 use crate::refusal::SchemaErrorKind;
 use crate::segment::{Segment, Step};
@@ -98,7 +96,7 @@ fn is_set(flags: &[bool], number: usize) -> bool
 /// Notes the references to nodes that come to no end.
 pub(crate) fn note_endless_references<E: RegexEngine>(
     alloc: Global,
-    places: &[Place<'_>],
+    places: &[ScopedPlace<'_>],
     nodes: &[Node<E>],
     end: &[bool],
     first: &mut Option<Problem>,
@@ -109,7 +107,7 @@ pub(crate) fn note_endless_references<E: RegexEngine>(
 {
     for number in 0..nodes.len() {
         if let Body::Keywords(keywords) = &nodes[number].body {
-            note_endless(alloc, &places[number].path, keywords, end, first)?;
+            note_endless(alloc, &places[number].place.path, keywords, end, first)?;
         }
     }
     Ok(())
@@ -127,25 +125,28 @@ fn note_endless<E: RegexEngine>(
         (map (keyword_of E.outcome) keywords.now)) first.old first.new) }
 {
     for keyword in keywords {
-        if is_endless(keyword, end) {
-            let at = path_below(alloc, path, Step::Key("$ref"))?;
+        if let Some(name) = endless_reference(keyword, end) {
+            let at = path_below(alloc, path, Step::Key(name))?;
             Problem::note(alloc, &at, SchemaErrorKind::CircularReference, first)?;
         }
     }
     Ok(())
 }
 
-// Whether a keyword is a reference to a node that comes to no end.
-fn is_endless<E: RegexEngine>(keyword: &Keyword<E>, end: &[bool]) -> bool
+// The name of a keyword that is a reference to a node from which a way has no end.
+fn endless_reference<'k, E: RegexEngine>(keyword: &'k Keyword<E>, end: &[bool]) -> Option<&'k str>
     ensures { (path : Path) → keyword_endless (flag_at end.now) path
         (keyword_of E.outcome keyword.now)
-        ≡ (if result then (path ++ key reference_name ∷ [], circular_reference) ∷ [] else []) }
+        ≡ endless_at path (option_map (λ name. name.now) result) }
 {
     match keyword {
-        Keyword::Rule(ruled) => match ruled.rule {
-            Rule::Reference => !branches_end(&ruled.branches, end),
-            _ => false,
-        },
-        Keyword::Text(_) => false,
+        Keyword::Rule(ruled) if matches!(ruled.rule, Rule::Reference) => {
+            if branches_end(&ruled.branches, end) {
+                None
+            } else {
+                Some(ruled.name.as_str())
+            }
+        }
+        _ => None,
     }
 }

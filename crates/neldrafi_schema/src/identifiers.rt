@@ -3,13 +3,13 @@
 ghost use Rattle.std.specs.Prelude.{◌≡◌, ◌++◌, ◌∷◌, IfOk, OnOk, [], map, option_map, string_bytes, unwrap_or};
 ghost use Rattle.serde_json.specs.View.{items_view, members_view, view};
 ghost use Rattle.neldrafi_schema.specs.Drafts.{identifier_in};
-ghost use Rattle.neldrafi_schema.specs.Resources.{all_identifiers, base_by, document_identifiers, identifiers, of_items, of_keyed, of_members, own_identifiers};
+ghost use Rattle.neldrafi_schema.specs.Resources.{all_identifiers, base_by, document_identifiers, identifier, identifiers, named_anchors, of_items, of_keyed, of_members, own_identifiers, recurs};
 ghost use Rattle.neldrafi_schema.specs.machine.Compiled.{path_of};
-ghost use Rattle.neldrafi_schema.specs.machine.Identifiers.{identifiers_of};
+ghost use Rattle.neldrafi_schema.specs.machine.Identifiers.{anchor_of, identifiers_of};
 ghost use Rattle.neldrafi_schema.specs.machine.Places.{documents_of};
 
 use crate::documents::{Documents, SCHEMA_URI};
-use crate::known::{Holding, Known, anchor_in, identifier_in};
+use crate::known::{Holding, Known, anchor_in, dynamic_anchor_in, identifier_in, is_recursive};
 use crate::places::{path_below, path_copy};
 use crate::segment::{Segment, Step};
 use neldrafi_uri::{resolved, split_fragment};
@@ -17,13 +17,21 @@ use serde_json::{Map, Value};
 use std::alloc::{AllocError, Global};
 use strkw_report::Draft;
 
-/// A URI without a fragment, a plain name in it, which is empty for the resource itself, and the path to the schema
-/// that they identify.
+/// A URI without a fragment, a plain name in it, which is empty for the resource itself, whether dynamic references may
+/// lead to it from other resources, and the path to the schema that they identify.
 #[derive(Drop)]
 pub(crate) struct Identifier {
     pub uri: String,
     pub anchor: String,
+    pub is_dynamic: bool,
     pub path: Vec<Segment>,
+}
+
+// A plain name.
+#[derive(Clone, Copy)]
+struct Anchor<'a> {
+    name: &'a str,
+    is_dynamic: bool,
 }
 
 /// What identifies the schemas of documents.
@@ -64,8 +72,22 @@ fn push_of_document(
         ++ document_identifiers draft number uri.now (view document.now)) }
 {
     let path = [Segment::Document(number)];
-    push_identifier(alloc, uri, "", &path, found)?;
+    let anchor = Anchor {
+        name: "",
+        is_dynamic: recurs(draft, document),
+    };
+    push_identifier(alloc, uri, anchor, &path, found)?;
     push_identifiers(alloc, draft, uri, &path, document, found)
+}
+
+// Whether the root of a resource has `$recursiveAnchor`.
+fn recurs(draft: Draft, value: &Value) -> bool
+    ensures { result ≡ recurs draft (view value.now) }
+{
+    match value.as_object() {
+        Some(object) => is_recursive(draft, object),
+        None => false,
+    }
 }
 
 /// The base URI of a schema object in a schema of this base URI, if it has one of its own.
@@ -90,19 +112,39 @@ pub(crate) fn own_base(
 fn push_identifier(
     alloc: Global,
     uri: &str,
-    anchor: &str,
+    anchor: Anchor<'_>,
     path: &[Segment],
     found: &mut Vec<Identifier>,
 ) -> Result<(), AllocError>
     ensures { OnOk result (identifiers_of found.new.items ≡ identifiers_of found.old.items
-        ++ record { uri = uri.now; anchor = anchor.now; path = path_of path.now } ∷ []) }
+        ++ identifier uri.now (path_of path.now) (anchor_of anchor.entry) ∷ []) }
 {
     found.push(Identifier {
         uri: String::from_str(alloc, uri)?,
-        anchor: String::from_str(alloc, anchor)?,
+        anchor: String::from_str(alloc, anchor.name)?,
+        is_dynamic: anchor.is_dynamic,
         path: path_copy(alloc, path)?,
     })?;
     Ok(())
+}
+
+// A plain name, if there is one.
+fn push_name(
+    alloc: Global,
+    uri: &str,
+    name: Option<&str>,
+    is_dynamic: bool,
+    path: &[Segment],
+    found: &mut Vec<Identifier>,
+) -> Result<(), AllocError>
+    ensures { OnOk result (identifiers_of found.new.items ≡ identifiers_of found.old.items
+        ++ map (identifier uri.now (path_of path.now))
+        (named_anchors is_dynamic (option_map (λ t. t.now) name.entry))) }
+{
+    match name {
+        Some(name) => push_identifier(alloc, uri, Anchor { name, is_dynamic }, path, found),
+        None => Ok(()),
+    }
 }
 
 // Those of the schema at a path, or of the list of schemas there, and those below.
@@ -209,14 +251,16 @@ fn push_own(
         ++ own_identifiers draft base.now (path_of path.now) (members_view object.now.entries)) }
 {
     if let Some(identifier) = identifier_in(draft, object) {
-        push_identifier(alloc, base, "", path, found)?;
+        let resource = Anchor {
+            name: "",
+            is_dynamic: is_recursive(draft, object),
+        };
+        push_identifier(alloc, base, resource, path, found)?;
         let (_, fragment) = split_fragment(identifier);
-        if let Some(name) = fragment {
-            push_identifier(alloc, base, name, path, found)?;
-        }
+        push_name(alloc, base, fragment, false, path, found)?;
     }
-    match anchor_in(draft, object) {
-        Some(name) => push_identifier(alloc, base, name, path, found),
-        None => Ok(()),
-    }
+    let anchor = anchor_in(draft, object);
+    push_name(alloc, base, anchor, false, path, found)?;
+    let dynamic = dynamic_anchor_in(draft, object);
+    push_name(alloc, base, dynamic, true, path, found)
 }

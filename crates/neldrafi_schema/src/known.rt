@@ -3,7 +3,7 @@
 ghost use Rattle.std.specs.Prelude.{◌≡◌, ◌++◌, codes, option_map};
 ghost use Rattle.serde_json.specs.View.{members_view, view};
 ghost use Rattle.neldrafi_schema.specs.Resources.{holding};
-ghost use Rattle.neldrafi_schema.specs.Drafts.{anchor_in, begins_anchor, counts, draft_named, draft_number, draft_of, goes_on_in_anchor, has_keyword, has_lone_reference, has_unevaluated, identifier_in, ignores_siblings, is_anchor, is_draft_4, is_uri, known_named, named, since, stays_beside_reference, until};
+ghost use Rattle.neldrafi_schema.specs.Drafts.{anchor_in, begins_anchor, counts, draft_named, draft_number, draft_of, dynamic_anchor_in, goes_on_in_anchor, has_keyword, has_lone_reference, has_unevaluated, identifier_in, ignores_siblings, is_anchor, is_draft_4, is_recursive, is_uri, known_named, name_in, named, since, stays_beside_reference, until};
 
 use crate::limits::{Limit, Size};
 use crate::node::Part;
@@ -19,6 +19,10 @@ pub(crate) enum Known {
     Draft4Identifier,
     Identifier,
     Anchor,
+    DynamicReference,
+    DynamicAnchor,
+    RecursiveReference,
+    RecursiveAnchor,
     Types,
     Enumeration,
     Constant,
@@ -93,6 +97,10 @@ impl Known {
             "id" => Known::Draft4Identifier,
             "$id" => Known::Identifier,
             "$anchor" => Known::Anchor,
+            "$dynamicRef" => Known::DynamicReference,
+            "$dynamicAnchor" => Known::DynamicAnchor,
+            "$recursiveRef" => Known::RecursiveReference,
+            "$recursiveAnchor" => Known::RecursiveAnchor,
             "type" => Known::Types,
             "enum" => Known::Enumeration,
             "const" => Known::Constant,
@@ -156,12 +164,16 @@ impl Known {
             }
             Known::If | Known::Then | Known::Else => Draft::Draft7,
             Known::Anchor
+            | Known::RecursiveReference
+            | Known::RecursiveAnchor
             | Known::ContainsCount
             | Known::DependentRequired
             | Known::DependentSchemas
             | Known::Defs
             | Known::Unevaluated(_) => Draft::Draft201909,
-            Known::PrefixItems => Draft::Draft202012,
+            Known::PrefixItems | Known::DynamicReference | Known::DynamicAnchor => {
+                Draft::Draft202012
+            }
             _ => Draft::Draft4,
         }
     }
@@ -173,7 +185,9 @@ impl Known {
         match self {
             Known::Draft4Identifier => Draft::Draft4,
             Known::Dependencies => Draft::Draft7,
-            Known::AdditionalItems => Draft::Draft201909,
+            Known::AdditionalItems | Known::RecursiveReference | Known::RecursiveAnchor => {
+                Draft::Draft201909
+            }
             _ => Draft::Draft202012,
         }
     }
@@ -264,10 +278,44 @@ pub(crate) fn identifier_in(draft: Draft, object: &Map<String, Value>) -> Option
 pub(crate) fn anchor_in(draft: Draft, object: &Map<String, Value>) -> Option<&str>
     ensures { option_map (λ t. t.now) result ≡ anchor_in draft (members_view object.now.entries) }
 {
-    if Known::Anchor.is_of(draft) {
-        member(object, "$anchor")?.as_str()
+    name_in(draft, Known::Anchor, "$anchor", object)
+}
+
+/// `$dynamicAnchor` of a schema object.
+pub(crate) fn dynamic_anchor_in(draft: Draft, object: &Map<String, Value>) -> Option<&str>
+    ensures { option_map (λ t. t.now) result
+        ≡ dynamic_anchor_in draft (members_view object.now.entries) }
+{
+    name_in(draft, Known::DynamicAnchor, "$dynamicAnchor", object)
+}
+
+// The text of a keyword, in the drafts that have it.
+fn name_in<'v>(
+    draft: Draft,
+    keyword: Known,
+    name: &str,
+    object: &'v Map<String, Value>,
+) -> Option<&'v str>
+    ensures { option_map (λ t. t.now) result
+        ≡ name_in draft keyword name.now (members_view object.now.entries) }
+{
+    if keyword.is_of(draft) {
+        member(object, name)?.as_str()
     } else {
         None
+    }
+}
+
+/// Whether `$recursiveAnchor` of a schema object is `true`.
+pub(crate) fn is_recursive(draft: Draft, object: &Map<String, Value>) -> bool
+    ensures { result ≡ is_recursive draft (members_view object.now.entries) }
+{
+    if !Known::RecursiveAnchor.is_of(draft) {
+        return false;
+    }
+    match member(object, "$recursiveAnchor") {
+        Some(value) => value.as_bool().unwrap_or(false),
+        None => false,
     }
 }
 

@@ -25,6 +25,7 @@ mod references;
 mod refusal;
 mod rules;
 mod schema;
+mod scopes;
 mod segment;
 mod senses;
 mod targets;

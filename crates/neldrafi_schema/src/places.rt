@@ -7,7 +7,7 @@ ghost use Rattle.neldrafi_schema.specs.Paths.{location_of};
 ghost use Rattle.neldrafi_schema.specs.References.{decoded, is_schema, path_along, path_of_pointer, place_named, segment_at};
 ghost use Rattle.neldrafi_schema.specs.machine.Compiled.{path_of, segment_of, step_of};
 ghost use Rattle.neldrafi_schema.specs.Paths.{document};
-ghost use Rattle.neldrafi_schema.specs.machine.Places.{IsBelow, IsPlace, documents_of, place_path};
+ghost use Rattle.neldrafi_schema.specs.machine.Places.{IsBelow, IsPlace, documents_of, place_path, scope_of};
 ghost use Rattle.neldrafi_schema.specs.machine.Words.{after_tilde, begins_oddly};
 
 use crate::documents::Documents;
@@ -24,59 +24,93 @@ pub(crate) struct Place<'v> {
     pub value: &'v Value,
 }
 
+/// A schema, and the dynamic scope from which it is entered: the URIs of resources, outermost first.
+#[derive(Drop)]
+pub(crate) struct ScopedPlace<'v> {
+    pub scope: Vec<String>,
+    pub place: Place<'v>,
+}
+
 /// The schemas that are found so far, by number.
 #[derive(Drop)]
 pub(crate) struct Places<'v> {
     pub documents: Documents<'v>,
-    pub places: Vec<Place<'v>>,
+    pub places: Vec<ScopedPlace<'v>>,
 }
 
 impl<'v> Places<'v> {
-    ghost use Rattle.neldrafi_schema.specs.machine.Places.{Grown, IsTable, StaysAt, paths_of};
+    ghost use Rattle.neldrafi_schema.specs.machine.Places.{Grown, IsTable, StaysAt, scoped_paths};
 
-    /// The root of the schema alone.
+    /// The root of the schema alone, entered from no scope.
     pub fn of(alloc: Global, documents: Documents<'v>) -> Result<Places<'v>, AllocError>
         ensures table { IfOk result IsTable }
         ensures documents { IfOk result (λ t. documents_of t.documents
             ≡ documents_of documents.entry) }
-        ensures root { IfOk result (λ t. paths_of t.places.items ≡ (document 0 ∷ []) ∷ []) }
+        ensures root { IfOk result (λ t. scoped_paths t.places.items
+            ≡ record { scope = []; path = document 0 ∷ [] } ∷ []) }
     {
         let mut places = Vec::new(alloc);
-        places.push(Place {
-            path: vec![in alloc; Segment::Document(0)]?,
-            value: documents.schema,
+        places.push(ScopedPlace {
+            scope: Vec::new(alloc),
+            place: Place {
+                path: vec![in alloc; Segment::Document(0)]?,
+                value: documents.schema,
+            },
         })?;
         Ok(Places { documents, places })
     }
 
-    /// Numbers the value at a path.
-    pub fn number(&mut self, place: Place<'v>) -> Result<usize, AllocError>
+    /// Numbers the value at a path, entered from a scope.
+    pub fn number(
+        &mut self,
+        alloc: Global,
+        scope: &[String],
+        place: Place<'v>,
+    ) -> Result<usize, AllocError>
         requires table { IsTable self.old }
         requires there { IsPlace (documents_of self.old.documents) place }
-        ensures number { IfOk result (λ n.
-            StaysAt (paths_of self.new.places.items) n (place_path place.entry)) }
+        ensures number { IfOk result (λ n. StaysAt (scoped_paths self.new.places.items) n
+            (scope_of scope.now) (place_path place.entry)) }
         ensures grown { OnOk result (Grown self.old self.new) }
     {
         let number = self.places.len();
-        self.places.push(place)?;
+        let scope = scope_copy(alloc, scope)?;
+        self.places.push(ScopedPlace { scope, place })?;
         Ok(number)
     }
 
-    /// The number of the value at a path, which may have been numbered before.
-    pub fn number_known(&mut self, place: Place<'v>) -> Result<usize, AllocError>
+    /// The number of the value at a path, entered from a scope, which may have been numbered before.
+    pub fn number_known(
+        &mut self,
+        alloc: Global,
+        scope: &[String],
+        place: Place<'v>,
+    ) -> Result<usize, AllocError>
         requires table { IsTable self.old }
         requires there { IsPlace (documents_of self.old.documents) place }
-        ensures number { IfOk result (λ n.
-            StaysAt (paths_of self.new.places.items) n (place_path place.entry)) }
+        ensures number { IfOk result (λ n. StaysAt (scoped_paths self.new.places.items) n
+            (scope_of scope.now) (place_path place.entry)) }
         ensures grown { OnOk result (Grown self.old self.new) }
     {
         for number in 0..self.places.len() {
-            if self.places[number].path == place.path {
+            let known = &self.places[number];
+            if known.place.path == place.path && known.scope.as_slice() == scope {
                 return Ok(number);
             }
         }
-        self.number(place)
+        self.number(alloc, scope, place)
     }
+}
+
+/// The same scope.
+pub(crate) fn scope_copy(alloc: Global, scope: &[String]) -> Result<Vec<String>, AllocError>
+    ensures { IfOk result (λ copy. scope_of copy.items ≡ scope_of scope.now) }
+{
+    let mut copy = Vec::new(alloc);
+    for uri in scope {
+        copy.push(uri.clone()?)?;
+    }
+    Ok(copy)
 }
 
 /// The same path.

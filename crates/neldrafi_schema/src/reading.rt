@@ -12,12 +12,15 @@ ghost use Rattle.strkw_keywords.specs.Values.{AreValuesOf};
 ghost use Rattle.neldrafi_schema.specs.Drafts.{known_named};
 ghost use Rattle.neldrafi_schema.specs.Documents.{value_in};
 ghost use Rattle.neldrafi_schema.specs.Paths.{Path, key, location_of as location_text};
+ghost use Rattle.neldrafi_schema.specs.References.{schema_referred};
+ghost use Rattle.neldrafi_schema.specs.Scopes.{ScopedPath};
+ghost use Rattle.neldrafi_schema.specs.Values.{reference_sense};
 ghost use Rattle.neldrafi_schema.specs.Reading.{AreNumbered, BodySays, KnownSays, PatternPropertiesSay, PatternsAre, SenseSays, TextSays, handed};
 ghost use Rattle.neldrafi_schema.specs.Settings.{config_settings, keyword_settings};
 ghost use Rattle.neldrafi_schema.specs.machine.Compiled.{branches_of, path_of};
 ghost use Rattle.neldrafi_schema.specs.machine.Identifiers.{IsLibraryOf};
 ghost use Rattle.neldrafi_schema.specs.machine.Leads.{AreLeads, IsThere, boolean_of};
-ghost use Rattle.neldrafi_schema.specs.machine.Places.{documents_of, Extends, Grown, IsPlace, IsTable, StaysAt, paths_of, place_path};
+ghost use Rattle.neldrafi_schema.specs.machine.Places.{documents_of, Extends, Grown, IsPlace, IsTable, StaysAt, place_path, scope_of, scoped_paths};
 ghost use Rattle.neldrafi_schema.specs.machine.Said.{Always, ArePatternsReady, IsReadReady, IsSaidReady, IsSenseReady, Reads, is_out_of_memory, lead_of, patterns_of, read_keywords, said_keywords, sense_of};
 
 use crate::config::Config;
@@ -67,9 +70,10 @@ struct RefusedPattern {
 type ReadText<E> = Option<Result<Validator<E>, CompileError>>;
 
 impl<'v, B: EngineBuilder> Reader<'_, '_, 'v, B> {
-    /// The schema at a place. What has no meaning is noted, if it is the first.
+    /// The schema at a path, in a scope. What has no meaning is noted, if it is the first.
     pub fn read_schema(
         &self,
+        scope: &[String],
         path: &[Segment],
         value: &'v Value,
         places: &mut Places<'v>,
@@ -81,14 +85,14 @@ impl<'v, B: EngineBuilder> Reader<'_, '_, 'v, B> {
             ≡ Some (view value.now) }
         ensures read { let s = record (config_settings B.takes B.outcome admits accepts is_encoding
             decoding self.now.config.now) { draft = self.now.library.now.draft } in
-            IfOk result (λ node. Reads B.Engine.outcome s.lists (λ numbered body.
-            BodySays numbered s (documents_of places.old.documents) (path_of path.now) (view value.now)
-            body) (path_of path.now) (paths_of places.new.places.items) first.old first.new
-            node.body) }
+            IfOk result (λ node. Reads B.Engine.outcome s.lists (λ numbered body. BodySays numbered s
+            (documents_of places.old.documents) (scope_of scope.now) (path_of path.now)
+            (view value.now) body) (scope_of scope.now) (path_of path.now)
+            (scoped_paths places.new.places.items) first.old first.new node.body) }
         ensures location { IfOk result (λ node. node.location ≡ location_text (path_of path.now)) }
         ensures grown { OnOk result (Grown places.old places.new) }
     {
-        let body = self.read_body(path, value, places, first)?;
+        let body = self.read_body(scope, path, value, places, first)?;
         let location = location_of(self.alloc, path)?;
         Ok(Node { location, body })
     }
@@ -96,6 +100,7 @@ impl<'v, B: EngineBuilder> Reader<'_, '_, 'v, B> {
     // What it says.
     fn read_body(
         &self,
+        scope: &[String],
         path: &[Segment],
         value: &'v Value,
         places: &mut Places<'v>,
@@ -107,13 +112,14 @@ impl<'v, B: EngineBuilder> Reader<'_, '_, 'v, B> {
             ≡ Some (view value.now) }
         ensures read { let s = record (config_settings B.takes B.outcome admits accepts is_encoding
             decoding self.now.config.now) { draft = self.now.library.now.draft } in
-            IfOk result (λ body. Reads B.Engine.outcome s.lists (λ numbered said.
-            BodySays numbered s (documents_of places.old.documents) (path_of path.now) (view value.now)
-            said) (path_of path.now) (paths_of places.new.places.items) first.old first.new body) }
+            IfOk result (λ body. Reads B.Engine.outcome s.lists (λ numbered said. BodySays numbered s
+            (documents_of places.old.documents) (scope_of scope.now) (path_of path.now)
+            (view value.now) said) (scope_of scope.now) (path_of path.now)
+            (scoped_paths places.new.places.items) first.old first.new body) }
         ensures grown { OnOk result (Grown places.old places.new) }
     {
         match value.as_object() {
-            Some(object) => self.read_members(path, object, places, first),
+            Some(object) => self.read_members(scope, path, object, places, first),
             None => match boolean_of(self.library.draft, value) {
                 Some(true) => Ok(Body::Always),
                 Some(false) => Ok(Body::Never),
@@ -128,6 +134,7 @@ impl<'v, B: EngineBuilder> Reader<'_, '_, 'v, B> {
     // The keywords of a schema object, in the order of its members.
     fn read_members(
         &self,
+        scope: &[String],
         path: &[Segment],
         object: &'v Map<String, Value>,
         places: &mut Places<'v>,
@@ -140,9 +147,10 @@ impl<'v, B: EngineBuilder> Reader<'_, '_, 'v, B> {
         ensures read { let s = record (config_settings B.takes B.outcome admits accepts is_encoding
             decoding self.now.config.now) { draft = self.now.library.now.draft } in
             let ms = members_view object.now.entries in
-            IfOk result (λ body. Reads B.Engine.outcome s.lists (λ numbered body. BodySays numbered
-            s (documents_of places.old.documents) (path_of path.now) (object_of ms) body)
-            (path_of path.now) (paths_of places.new.places.items) first.old first.new body) }
+            IfOk result (λ body. Reads B.Engine.outcome s.lists (λ numbered body. BodySays numbered s
+            (documents_of places.old.documents) (scope_of scope.now) (path_of path.now)
+            (object_of ms) body) (scope_of scope.now) (path_of path.now)
+            (scoped_paths places.new.places.items) first.old first.new body) }
         ensures grown { OnOk result (Grown places.old places.new) }
     {
         let mut keywords = Vec::new(self.alloc);
@@ -150,6 +158,7 @@ impl<'v, B: EngineBuilder> Reader<'_, '_, 'v, B> {
             let name = name.as_str();
             let at = path_below(self.alloc, path, Step::Key(name))?;
             let member = Member {
+                scope,
                 path,
                 object,
                 name,
@@ -183,53 +192,79 @@ impl<'v, B: EngineBuilder> Reader<'_, '_, 'v, B> {
         ensures says { let s = record (config_settings B.takes B.outcome admits accepts is_encoding
             decoding self.now.config.now) { draft = self.now.library.now.draft } in
             let ms = members_view member.now.object.now.entries in
-            IfOk result (λ said. Always (paths_of places.new.places.items) (λ numbered.
-            KnownSays numbered s (documents_of places.old.documents) (path_of member.now.path.now) ms
-            member.now.name.now (known_named s.draft ms member.now.name.now)
-            (view member.now.value.now)
+            let scope = scope_of member.now.scope.now in
+            IfOk result (λ said. Always (scoped_paths places.new.places.items) scope (λ numbered.
+            KnownSays numbered s (documents_of places.old.documents) scope
+            (path_of member.now.path.now) ms member.now.name.now
+            (known_named s.draft ms member.now.name.now) (view member.now.value.now)
             (said_keywords B.Engine.outcome member.now.name.now said))) }
         ensures ready { IfOk result (IsSaidReady B.Engine.outcome
             (lists_of admits accepts is_encoding decoding self.now.config.now.checks)
-            (paths_of places.new.places.items)) }
+            (scoped_paths places.new.places.items)) }
         ensures grown { OnOk result (Grown places.old places.new) }
     {
         match Known::among(self.library.draft, member.object, member.name) {
             Known::Text(keyword) => self.read_text(member, keyword),
             Known::PatternProperties => self.read_patterns(member, places),
-            Known::Reference => {
-                let sense = reference_sense(self.alloc, self.library, member.path, member.value)?;
-                self.numbered(member.name, sense, places)
+            Known::Reference => self.read_reference(&[], member, places),
+            Known::DynamicReference | Known::RecursiveReference => {
+                self.read_reference(member.scope, member, places)
             }
             known => {
                 let sense = sense_of(self.alloc, self.library.draft, member, known)?;
-                self.numbered(member.name, sense, places)
+                self.numbered(member, sense, places)
             }
         }
     }
 
-    // A sense, with its schemas by number.
+    // A reference, which is resolved in this scope.
+    fn read_reference(
+        &self,
+        scope: &[String],
+        member: &Member<'_, 'v>,
+        places: &mut Places<'v>,
+    ) -> Result<Said<B::Engine>, AllocError>
+        requires library { IsLibraryOf self.now.library.now places.old }
+        requires table { IsTable places.old }
+        ensures says { let referred = schema_referred self.now.library.now.draft
+            (documents_of places.old.documents) (scope_of scope.now) (path_of member.now.path.now) in
+            IfOk result (λ said. Always (scoped_paths places.new.places.items)
+            (scope_of member.now.scope.now) (λ numbered. SenseSays numbered member.now.name.now
+            (reference_sense referred (view member.now.value.now))
+            (said_keywords B.Engine.outcome member.now.name.now said))) }
+        ensures ready { (lists : Lists) → IfOk result (IsSaidReady B.Engine.outcome lists
+            (scoped_paths places.new.places.items)) }
+        ensures grown { OnOk result (Grown places.old places.new) }
+    {
+        let sense = reference_sense(self.alloc, self.library, scope, member.path, member.value)?;
+        self.numbered(member, sense, places)
+    }
+
+    // A sense of a member, with its schemas by number.
     fn numbered(
         &self,
-        name: &str,
+        member: &Member<'_, 'v>,
         sense: Sense<'v, B::Engine>,
         places: &mut Places<'v>,
     ) -> Result<Said<B::Engine>, AllocError>
         requires table { IsTable places.old }
         requires leads { AreLeads (documents_of places.old.documents) sense }
-        ensures says { IfOk result (λ said. Always (paths_of places.new.places.items) (λ numbered.
-            SenseSays numbered name.now (sense_of B.Engine.outcome sense.entry)
-            (said_keywords B.Engine.outcome name.now said))) }
+        ensures says { IfOk result (λ said. Always (scoped_paths places.new.places.items)
+            (scope_of member.now.scope.now) (λ numbered. SenseSays numbered member.now.name.now
+            (sense_of B.Engine.outcome sense.entry)
+            (said_keywords B.Engine.outcome member.now.name.now said))) }
         ensures ready { (lists : Lists) → IsSenseReady B.Engine.outcome lists sense.entry
-            → IfOk result (IsSaidReady B.Engine.outcome lists (paths_of places.new.places.items)) }
+            → IfOk result (IsSaidReady B.Engine.outcome lists
+            (scoped_paths places.new.places.items)) }
         ensures grown { OnOk result (Grown places.old places.new) }
     {
         match sense {
             Sense::Nothing => Ok(Said::Nothing),
             Sense::Refused(kind) => Ok(Said::Malformed(kind)),
             Sense::Says(rule, leads) => {
-                let branches = branches_of(self.alloc, leads, places)?;
+                let branches = branches_of(self.alloc, member.scope, leads, places)?;
                 Ok(Said::Keyword(Keyword::Rule(Ruled {
-                    name: String::from_str(self.alloc, name)?,
+                    name: String::from_str(self.alloc, member.name)?,
                     rule,
                     branches,
                 })))
@@ -249,13 +284,13 @@ impl<'v, B: EngineBuilder> Reader<'_, '_, 'v, B> {
         requires there { IsThere (documents_of places.old.documents) member.now }
         ensures says { let s = record (config_settings B.takes B.outcome admits accepts is_encoding
             decoding self.now.config.now) { draft = self.now.library.now.draft } in
-            IfOk result (λ said. Always (paths_of places.new.places.items) (λ numbered.
-            PatternPropertiesSay numbered s (path_of member.now.path.now) member.now.name.now
-            (as_object (view member.now.value.now))
+            IfOk result (λ said. Always (scoped_paths places.new.places.items)
+            (scope_of member.now.scope.now) (λ numbered. PatternPropertiesSay numbered s
+            (path_of member.now.path.now) member.now.name.now (as_object (view member.now.value.now))
             (said_keywords B.Engine.outcome member.now.name.now said))) }
         ensures ready { IfOk result (IsSaidReady B.Engine.outcome
             (lists_of admits accepts is_encoding decoding self.now.config.now.checks)
-            (paths_of places.new.places.items)) }
+            (scoped_paths places.new.places.items)) }
         ensures grown { OnOk result (Grown places.old places.new) }
     {
         let Some(members) = member.value.as_object() else {
@@ -265,7 +300,7 @@ impl<'v, B: EngineBuilder> Reader<'_, '_, 'v, B> {
             Ok(patterns) => {
                 let leads = member_leads(self.alloc, member.at, members)?;
                 let sense = Sense::Says(Rule::Matching(patterns), leads);
-                self.numbered(member.name, sense, places)
+                self.numbered(member, sense, places)
             }
             Err(RefusedPattern { pattern, refusal }) => {
                 Ok(Said::MalformedAt(pattern, SchemaErrorKind::Text(refusal)))
@@ -313,7 +348,7 @@ impl<'v, B: EngineBuilder> Reader<'_, '_, 'v, B> {
             (keyword_settings s (path_of member.now.path.now) keyword)
             (key member.now.name.now ∷ []) keyword (view member.now.value.now)
             (said_keywords B.Engine.outcome member.now.name.now said)) }
-        ensures ready { (paths : List Path) → IfOk result (IsSaidReady B.Engine.outcome
+        ensures ready { (paths : List ScopedPath) → IfOk result (IsSaidReady B.Engine.outcome
             (lists_of admits accepts is_encoding decoding self.now.config.now.checks) paths) }
     {
         match self.compiled_member(member, keyword)? {
@@ -427,42 +462,46 @@ fn values_of(value: &Value, keyword: TextKeyword) -> Values<'_>
 
 // A schema that is no part of the keyword's value may have been numbered before.
 fn number_of<'v>(
+    alloc: Global,
+    scope: &[String],
     place: Place<'v>,
     is_part: bool,
     places: &mut Places<'v>,
 ) -> Result<usize, AllocError>
     requires table { IsTable places.old }
     requires there { IsPlace (documents_of places.old.documents) place }
-    ensures number { IfOk result (λ n.
-        StaysAt (paths_of places.new.places.items) n (place_path place.entry)) }
+    ensures number { IfOk result (λ n. StaysAt (scoped_paths places.new.places.items) n
+        (scope_of scope.now) (place_path place.entry)) }
     ensures grown { OnOk result (Grown places.old places.new) }
 {
     if is_part {
-        places.number(place)
+        places.number(alloc, scope, place)
     } else {
-        places.number_known(place)
+        places.number_known(alloc, scope, place)
     }
 }
 
-// The schemas of leads, by number.
+// The schemas of leads, entered from a scope, by number.
 fn branches_of<'v>(
     alloc: Global,
+    scope: &[String],
     leads: Vec<Lead<'v>>,
     places: &mut Places<'v>,
 ) -> Result<Vec<Branch>, AllocError>
     requires table { IsTable places.old }
     requires there { AllByRecursion (λ l. IsPlace (documents_of places.old.documents) l.place)
         leads.items }
-    ensures numbered { IfOk result (λ bs. Always (paths_of places.new.places.items) (λ numbered.
+    ensures numbered { IfOk result (λ bs. Always (scoped_paths places.new.places.items)
+        (scope_of scope.now) (λ numbered.
         AreNumbered numbered (map lead_of leads.entry.items) (branches_of bs.items))) }
-    ensures inside { IfOk result (λ bs. (all : List Path)
-        → Extends (paths_of places.new.places.items) all
+    ensures inside { IfOk result (λ bs. (all : List ScopedPath)
+        → Extends (scoped_paths places.new.places.items) all
         → AllByRecursion (λ b. b.schema < length all) bs.items) }
     ensures grown { OnOk result (Grown places.old places.new) }
 {
     let mut branches = Vec::new(alloc);
     for lead in leads {
-        let schema = number_of(lead.place, lead.key.is_some(), places)?;
+        let schema = number_of(alloc, scope, lead.place, lead.key.is_some(), places)?;
         branches.push(Branch {
             key: lead.key,
             schema,

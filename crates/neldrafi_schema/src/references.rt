@@ -5,7 +5,7 @@ ghost use Rattle.neldrafi_schema.specs.References.{is_pointer, path_from, path_o
 ghost use Rattle.neldrafi_schema.specs.Resources.{identified};
 ghost use Rattle.neldrafi_schema.specs.machine.Compiled.{path_of};
 ghost use Rattle.neldrafi_schema.specs.machine.Identifiers.{IsLibrary, identifiers_of};
-ghost use Rattle.neldrafi_schema.specs.machine.Places.{IsPlace, documents_of, place_path};
+ghost use Rattle.neldrafi_schema.specs.machine.Places.{IsPlace, documents_of, place_path, scope_of};
 
 use crate::documents::Documents;
 use crate::identifiers::{Identifier, all_identifiers};
@@ -42,20 +42,21 @@ impl<'v> Library<'v> {
         })
     }
 
-    /// The schema to which a reference in the schema at a path leads, if it leads to one.
+    /// The schema to which a reference in the schema at a path leads in a scope, if it leads to one.
     pub fn referred(
         &self,
         alloc: Global,
+        scope: &[String],
         path: &[Segment],
         text: &str,
     ) -> Result<Option<Place<'v>>, AllocError>
         requires library { IsLibrary self.now }
         ensures path { IfOk result (λ o. option_map place_path o
-            ≡ schema_referred self.now.draft (documents_of self.now.documents) (path_of path.now)
-            text.now) }
+            ≡ schema_referred self.now.draft (documents_of self.now.documents)
+            (scope_of scope.now) (path_of path.now) text.now) }
         ensures there { IfOk result (λ o. IfSome o (IsPlace (documents_of self.now.documents))) }
     {
-        match self.place_of_reference(alloc, path, text)? {
+        match self.place_of_reference(alloc, scope, path, text)? {
             Some(place) if is_schema(place.value) => Ok(Some(place)),
             _ => Ok(None),
         }
@@ -65,20 +66,25 @@ impl<'v> Library<'v> {
     fn place_of_reference(
         &self,
         alloc: Global,
+        scope: &[String],
         path: &[Segment],
         text: &str,
     ) -> Result<Option<Place<'v>>, AllocError>
         requires library { IsLibrary self.now }
         ensures path { IfOk result (λ o. option_map place_path o
-            ≡ path_of_reference self.now.draft (documents_of self.now.documents) (path_of path.now)
-            text.now) }
+            ≡ path_of_reference self.now.draft (documents_of self.now.documents)
+            (scope_of scope.now) (path_of path.now) text.now) }
         ensures there { IfOk result (λ o. IfSome o (IsPlace (documents_of self.now.documents))) }
     {
         let (uri, fragment) = split_fragment(text);
         let base = self.documents.base_at(alloc, self.draft, path)?;
         let uri = resolved(alloc, base.as_str(), uri)?;
         match percent_decoded(alloc, fragment.unwrap_or(""))? {
-            Some(fragment) => self.place_of_fragment(alloc, uri.as_str(), fragment.as_str()),
+            Some(name) => {
+                let name = name.as_str();
+                let uri = self.dynamic_resource(scope, name, uri.as_str());
+                self.place_of_fragment(alloc, uri, name)
+            }
             None => Ok(None),
         }
     }

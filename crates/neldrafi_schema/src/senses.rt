@@ -8,11 +8,11 @@ ghost use Rattle.neldrafi_uri.specs.Components.{fragment_of};
 ghost use Rattle.neldrafi_schema.specs.Documents.{Documents};
 ghost use Rattle.neldrafi_schema.specs.Paths.{key};
 ghost use Rattle.neldrafi_schema.specs.References.{schema_referred};
-ghost use Rattle.neldrafi_schema.specs.Values.{additional_sense, anchor_sense, branch_sense, contains_rule, count_beside, dependencies_sense, dialect_sense, has_placed_items, has_some, identifier_sense, if_rule, is_condition, items_sense, lead_to, list_sense, map_sense, of_kind, others_sense, reference_sense, says, sense};
+ghost use Rattle.neldrafi_schema.specs.Values.{additional_sense, anchor_sense, branch_sense, contains_rule, count_beside, dependencies_sense, dialect_sense, has_placed_items, has_some, identifier_sense, if_rule, is_condition, items_sense, lead_to, list_sense, map_sense, nothing, of_kind, others_sense, reference_sense, says, sense};
 ghost use Rattle.neldrafi_schema.specs.machine.Compiled.{path_of, rule_of};
 ghost use Rattle.neldrafi_schema.specs.machine.Identifiers.{IsLibrary};
 ghost use Rattle.neldrafi_schema.specs.machine.Leads.{AreLeads, IsThere};
-ghost use Rattle.neldrafi_schema.specs.machine.Places.{documents_of};
+ghost use Rattle.neldrafi_schema.specs.machine.Places.{documents_of, scope_of};
 ghost use Rattle.neldrafi_schema.specs.machine.Said.{sense_of};
 
 use crate::assertions::{assertion_sense, dependencies_in};
@@ -38,9 +38,10 @@ pub(crate) enum Sense<'v, E> {
     Refused(SchemaErrorKind),
 }
 
-/// A member of the schema object at a path, and the path to its value.
+/// A member of the schema object at a path, in a dynamic scope, and the path to its value.
 #[derive(Clone, Copy)]
 pub(crate) struct Member<'r, 'v> {
+    pub scope: &'r [String],
     pub path: &'r [Segment],
     pub object: &'v Map<String, Value>,
     pub name: &'r str,
@@ -83,7 +84,8 @@ pub(crate) fn sense_of<'v, E: Drop>(
     match known {
         Known::Dialect => Ok(dialect_sense(value)),
         Known::Draft4Identifier | Known::Identifier => Ok(identifier_sense(draft, value)),
-        Known::Anchor => Ok(anchor_sense(draft, value)),
+        Known::Anchor | Known::DynamicAnchor => Ok(anchor_sense(draft, value)),
+        Known::RecursiveAnchor => Ok(flag_sense(value)),
         Known::AllOf => list_sense(alloc, Rule::AllOf, member),
         Known::AnyOf => list_sense(alloc, Rule::AnyOf, member),
         Known::OneOf => list_sense(alloc, Rule::OneOf, member),
@@ -113,9 +115,12 @@ pub(crate) fn sense_of<'v, E: Drop>(
         }
         Known::Items => items_sense(alloc, draft, member),
         Known::AdditionalItems => additional_sense(alloc, draft, member),
-        Known::PatternProperties | Known::Reference | Known::Text(_) | Known::Unknown => {
-            Ok(Sense::Nothing)
-        }
+        Known::PatternProperties
+        | Known::Reference
+        | Known::DynamicReference
+        | Known::RecursiveReference
+        | Known::Text(_)
+        | Known::Unknown => Ok(Sense::Nothing),
         assertion => assertion_sense(alloc, draft, member, assertion),
     }
 }
@@ -132,16 +137,17 @@ fn dialect_sense<'v, E: Drop>(value: &Value) -> Sense<'v, E>
     }
 }
 
-/// `$ref` of the schema at a path.
+/// A reference in the schema at a path, in this scope.
 pub(crate) fn reference_sense<'v, E: Drop>(
     alloc: Global,
     library: &Library<'v>,
+    scope: &[String],
     path: &[Segment],
     value: &Value,
 ) -> Result<Sense<'v, E>, AllocError>
     requires library { IsLibrary library.now }
     ensures sense { let referred = schema_referred library.now.draft
-        (documents_of library.now.documents) (path_of path.now) in
+        (documents_of library.now.documents) (scope_of scope.now) (path_of path.now) in
         (outcome : E → List ℕ → Outcome) → IfOk result (λ s. sense_of outcome s
         ≡ reference_sense referred (view value.now)) }
     ensures leads { IfOk result (AreLeads (documents_of library.now.documents)) }
@@ -149,7 +155,7 @@ pub(crate) fn reference_sense<'v, E: Drop>(
     let Some(text) = value.as_str() else {
         return Ok(wrong_type());
     };
-    let Some(place) = library.referred(alloc, path, text)? else {
+    let Some(place) = library.referred(alloc, scope, path, text)? else {
         return Ok(Sense::Refused(SchemaErrorKind::UnresolvedReference));
     };
     let mut leads = Vec::new(alloc);
@@ -188,6 +194,18 @@ fn anchor_sense<'v, E: Drop>(draft: Draft, value: &Value) -> Sense<'v, E>
     match value.as_str() {
         Some(text) if is_anchor(draft, text) => Sense::Nothing,
         _ => wrong_type(),
+    }
+}
+
+fn flag_sense<'v, E: Drop>(value: &Value) -> Sense<'v, E>
+    ensures leads { (documents : Documents) → AreLeads documents result }
+    ensures sense { (outcome : E → List ℕ → Outcome) → sense_of outcome result
+        ≡ of_kind (λ b. nothing) (as_bool (view value.now)) }
+{
+    if value.is_boolean() {
+        Sense::Nothing
+    } else {
+        wrong_type()
     }
 }
 

@@ -8,6 +8,7 @@ mod combined;
 mod depth;
 mod documents;
 mod drafts;
+mod dynamic;
 mod items;
 mod references;
 mod refusals;

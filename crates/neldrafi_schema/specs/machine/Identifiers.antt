@@ -1,9 +1,10 @@
 -- The identifiers of a document, as the code has them.
 use Rattle.std.specs.Prelude.{◌≡◌, List, map, string_bytes}
+use Rattle.neldrafi_schema.specs.declared.identifiers.Anchor.{Anchor as FoundAnchor}
 use Rattle.neldrafi_schema.specs.declared.identifiers.Identifier.{Identifier as FoundIdentifier}
 use Rattle.neldrafi_schema.specs.declared.places.Places.{Places}
 use Rattle.neldrafi_schema.specs.declared.references.Library.{Library}
-use Rattle.neldrafi_schema.specs.Resources.{Identifier, all_identifiers}
+use Rattle.neldrafi_schema.specs.Resources.{Anchor, Identifier, all_identifiers}
 use Rattle.neldrafi_schema.specs.machine.Compiled.{path_of}
 use Rattle.neldrafi_schema.specs.machine.Places.{documents_of}
 
@@ -11,8 +12,12 @@ abbrev pub identifier_of : FoundIdentifier → Identifier
 identifier_of i = record {
   uri = string_bytes i.uri;
   anchor = string_bytes i.anchor;
+  is_dynamic = i.is_dynamic;
   path = path_of i.path.items;
 }
+
+abbrev pub anchor_of : FoundAnchor → Anchor
+anchor_of a = (a.name.now, a.is_dynamic)
 
 abbrev pub identifiers_of : List FoundIdentifier → List Identifier
 identifiers_of is = map identifier_of is

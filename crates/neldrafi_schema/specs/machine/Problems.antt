@@ -1,5 +1,5 @@
 -- Problems as the code keeps them: the first.
-use Rattle.std.specs.Prelude.{◌≡◌, ◌++◌, List, [], Option, Some, None}
+use Rattle.std.specs.Prelude.{◌≡◌, ◌++◌, ℕ, List, [], ◌∷◌, Option, Some, None}
 use Rattle.strkw_report.specs.Refusals.{reason_of as text_reason_of}
 use Rattle.neldrafi_schema.specs.declared.problem.Problem.{Problem}
 use Rattle.neldrafi_schema.specs.declared.refusal.SchemaErrorKind.{SchemaErrorKind}
@@ -10,6 +10,7 @@ use Rattle.neldrafi_schema.specs.declared.refusal.SchemaErrorKind.TheVariants.{M
 use Rattle.neldrafi_schema.specs.Schemas.{Reason, wrong_type, unresolved_reference, circular_reference, unknown_dialect}
 use Rattle.neldrafi_schema.specs.Schemas.{by_string_keyword, out_of_memory}
 use Rattle.neldrafi_schema.specs.Refusals.{IsFirst, Problem as Refused}
+use Rattle.neldrafi_schema.specs.Paths.{Path, key}
 use Rattle.neldrafi_schema.specs.machine.Compiled.{path_of}
 
 abbrev pub reason_of : SchemaErrorKind → Reason
@@ -31,3 +32,8 @@ IsKept all (Some p) = IsFirst all (problem_of p)
 -- these problems were noted behind others
 pub record Notes (added : List Refused) (old new : Option Problem) : Type 0 where
   pub kept : (all : List Refused) → IsKept all old → IsKept (all ++ added) new
+
+-- the problem of a reference of this name, in the schema at a path
+abbrev pub endless_at : Path → Option (List ℕ) → List Refused
+endless_at path None = []
+endless_at path (Some name) = (path ++ key name ∷ [], circular_reference) ∷ []

@@ -25,6 +25,7 @@ use Rattle.neldrafi_schema.specs.Values.{Lead, Sense, nothing, says, refused}
 use Rattle.neldrafi_schema.specs.Paths.{Path, key}
 use Rattle.neldrafi_schema.specs.Schemas.{by_string_keyword, Keyword, malformed, string_keyword, Body, always, never, neither, keywords}
 use Rattle.neldrafi_schema.specs.Reading.{Numbered, Patterns, patterns, malformed_at, numbered_by}
+use Rattle.neldrafi_schema.specs.Scopes.{Scope, ScopedPath}
 use Rattle.neldrafi_schema.specs.Refusals.{body_problems}
 use Rattle.neldrafi_schema.specs.machine.Compiled.{segment_of, rule_of, keyword_of, body_of}
 use Rattle.neldrafi_schema.specs.machine.Places.{Extends, place_path}
@@ -32,9 +33,9 @@ use Rattle.neldrafi_schema.specs.machine.Problems.{Notes, reason_of}
 use Rattle.neldrafi_schema.specs.machine.Ready.{IsBodyReady, IsKeywordReady, IsPattern, IsPatternReady}
 use Rattle.neldrafi_schema.specs.machine.Ready.{IsRuleReady, RestsOn}
 
--- a fact of the numbers of these paths, however many more are found
-abbrev pub Always : List Path → (Numbered → Type 0) → Type 0
-Always paths P = (all : List Path) → Extends paths all → P (numbered_by all)
+-- a fact of the numbers of these paths, entered from a scope, however many more are found
+abbrev pub Always : List ScopedPath → Scope → (Numbered → Type 0) → Type 0
+Always paths scope P = (all : List ScopedPath) → Extends paths all → P (numbered_by all scope)
 
 -- what a keyword came to, with its schemas by their places
 abbrev pub lead_of : CompiledLead → Lead
@@ -62,8 +63,8 @@ module _ {E : Type 0} (outcome : E → List ℕ → Outcome) where
   said_keywords name (said.MalformedAt below kind) =
       malformed (key name ∷ key (string_bytes below) ∷ []) (reason_of kind) ∷ []
 
-  abbrev pub IsSaidReady : Lists → List Path → Said E → Type 0
-  IsSaidReady lists paths (said.Keyword k) = (all : List Path) → Extends paths all
+  abbrev pub IsSaidReady : Lists → List ScopedPath → Said E → Type 0
+  IsSaidReady lists paths (said.Keyword k) = (all : List ScopedPath) → Extends paths all
       → IsKeywordReady outcome (RestsOn outcome lists) (length all) k
   IsSaidReady lists paths other = Unit {0}
 
@@ -114,13 +115,14 @@ meaningful_body (keywords ks) = keywords (meaningful ks)
 -- What was read of a schema: what it says, its problems, which were noted, and that what has a
 -- meaning was compiled.
 pub record Reads {E : Type 0} (outcome : E → List ℕ → Outcome) (lists : Lists)
-    (says : Numbered → Body → Type 0) (path : Path) (paths : List Path) (old new : Option Problem)
-    (body : CompiledBody E) : Type 0 where
+    (says : Numbered → Body → Type 0) (scope : Scope) (path : Path) (paths : List ScopedPath)
+    (old new : Option Problem) (body : CompiledBody E) : Type 0 where
   pub said : Body
-  pub means : Always paths (λ numbered. says numbered said)
+  pub means : Always paths scope (λ numbered. says numbered said)
   pub notes : Notes (body_problems path said) old new
   pub same : body_of outcome body ≡ meaningful_body said
-  pub ready : (all : List Path) → Extends paths all → IsBodyReady outcome (RestsOn outcome lists) (length all) body
+  pub ready : (all : List ScopedPath) → Extends paths all
+      → IsBodyReady outcome (RestsOn outcome lists) (length all) body
 
 -- a flag, false where there is none
 abbrev pub flag_at : List Bool → ℕ → Bool

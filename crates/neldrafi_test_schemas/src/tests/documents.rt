@@ -126,8 +126,8 @@ fn documents<'v>(alloc: Global, values: &'v [Value]) -> Result<Vec<Document<'v>>
     Ok(documents)
 }
 
-// What schemas are compiled under, with these documents.
-fn config_with<'v>(documents: &'v [Document<'v>]) -> Config<'v, NoPatterns> {
+/// What schemas are compiled under, with these documents.
+pub fn config_with<'v>(documents: &'v [Document<'v>]) -> Config<'v, NoPatterns> {
     Config {
         draft: None,
         validate_formats: None,

@@ -1,9 +1,10 @@
-use Rattle.std.proofs.Common.{rules, ◌≡◌, ◌∙◌, ◌≤◌, ℕ, ap, arith, length, subst, sym, None, Some}
+use Rattle.std.proofs.Common.{rules, ◌≡◌, ◌∙◌, ◌≤◌, ℕ, ap, arith, length, subst, sym, Some}
 use Rattle.std.specs.Prelude.{slice_get}
 use Rattle.serde_json.specs.View.{view}
 use Rattle.strkw_keywords.specs.Object.{Settings}
 use Rattle.strkw_report.specs.declared.draft.Draft.{Draft}
 use Rattle.neldrafi_schema.specs.Documents.{Documents}
+use Rattle.neldrafi_schema.specs.Scopes.{Scope, entered}
 use Rattle.neldrafi_schema.specs.Drafts.{draft_of}
 use Rattle.neldrafi_schema.specs.Paths.{Path, location_of}
 use Rattle.neldrafi_schema.specs.Reading.{BodySays}
@@ -11,7 +12,7 @@ use Rattle.neldrafi_schema.specs.Refusals.{ends, schemas_endless}
 use Rattle.neldrafi_schema.specs.Settings.{config_settings}
 use Rattle.neldrafi_schema.specs.machine.Compiled.{schemas_of}
 use Rattle.neldrafi_schema.specs.machine.Compiled.{path_of}
-use Rattle.neldrafi_schema.specs.machine.Places.{documents_of, paths_of, place_path}
+use Rattle.neldrafi_schema.specs.machine.Places.{documents_of, paths_of, place_path, scope_of, scoped_paths}
 use Rattle.neldrafi_schema.specs.machine.Problems.{Notes}
 use Rattle.neldrafi_schema.specs.machine.Said.{Reads, flag_at}
 use Rattle.neldrafi_schema.proofs.Readings.{is_refused, is_said, nothing_read, one_more}
@@ -45,23 +46,30 @@ loop-number-preserved g c =
     let outcome = g.B.Engine.RegexEngine.outcome in
     let documents = documents_of c.args.documents in
     let read = c.loop-number.invariant in
-    let place = c.in-Some.place.now in
+    let place = c.in-Some.known.now in
     let at : slice_get c.loop-number.places.places.items c.loop-number.number ≡ Some place =
     ap (λ ps. slice_get ps c.loop-number.number) (sym c.deref.ensures.value)
     ∙ there c.deref.result.now c.loop-number.number place c.in-Some.ensures.lookup.3.0 c.in-Some.ensures.lookup.1 in
-    let path : path_of c.deref-in-loop-number-2.result.now ≡ place_path place =
-    ap path_of c.deref-in-loop-number-2.ensures.value ∙ (c.in_ok-path.ensures ∙ ap path_of c.deref-in-loop-number.ensures.value) in
+    let copied : path_of c.in_ok-path.path.items ≡ place_path place.place = c.in_ok-path.ensures ∙ ap path_of c.deref-in-loop-number.ensures.value in
+    let path : path_of c.deref-in-loop-number-5.result.now ≡ place_path place.place = ap path_of c.deref-in-loop-number-5.ensures.value ∙ copied in
     let ReadsAt =
-    λ (draft : Draft) (ds : Documents) (p : Path). Reads outcome s.lists (λ numbered body. BodySays numbered (record s { draft = draft }) ds p (view place.value.now) body) p
-    (paths_of c.read_schema.new.places.places.items)
-    c.loop-number.first c.read_schema.new.first c.in_ok-node.node.body in
+    λ (draft : Draft) (ds : Documents) (scope : Scope) (p : Path). Reads outcome s.lists
+    (λ numbered body. BodySays numbered (record s { draft = draft }) ds scope p (view place.place.value.now) body) scope p
+    (scoped_paths c.read_schema.new.places.places.items) c.loop-number.first c.read_schema.new.first c.in_ok-node.node.body in
     let library = c.in_ok-library.library in
     let named : c.draft_of-draft.result ≡ draft_of s.draft documents.schema = search rules in
     let draft : library.draft ≡ draft_of s.draft documents.schema = c.in_ok-library.ensures.draft ∙ named in
+    let before = scope_of place.scope.items in
+    let scope : scope_of c.deref-in-loop-number-4.result.now ≡ entered library.draft documents before (place_path place.place) =
+    ap scope_of c.deref-in-loop-number-4.ensures.value ∙ c.in_ok-scope.ensures
+    ∙ ap (λ ds. entered library.draft ds (scope_of c.deref-in-loop-number-2.result.now) (path_of c.deref-in-loop-number-3.result.now)) c.in_ok-library.ensures.documents
+    ∙ ap (λ uris. entered library.draft documents (scope_of uris) (path_of c.deref-in-loop-number-3.result.now)) c.deref-in-loop-number-2.ensures.value
+    ∙ ap (entered library.draft documents before) (ap path_of c.deref-in-loop-number-3.ensures.value ∙ copied) in
     let reads =
-    subst (λ draft. ReadsAt draft documents (place_path place)) draft
-    (subst (ReadsAt library.draft documents) path
-    (subst (λ ds. ReadsAt library.draft ds (path_of c.deref-in-loop-number-2.result.now)) read.whole c.in_ok-node.ensures.read)) in
+    subst (λ draft. ReadsAt draft documents (entered draft documents before (place_path place.place)) (place_path place.place)) draft
+    (subst (λ scope. ReadsAt library.draft documents scope (place_path place.place)) scope
+    (subst (ReadsAt library.draft documents (scope_of c.deref-in-loop-number-4.result.now)) path
+    (subst (λ ds. ReadsAt library.draft ds (scope_of c.deref-in-loop-number-4.result.now) (path_of c.deref-in-loop-number-5.result.now)) read.whole c.in_ok-node.ensures.read))) in
     one_more outcome s documents c.loop-number.places c.read_schema.new.places c.loop-number.nodes.items c.push.new.self.items c.loop-number.first c.read_schema.new.first c.loop-number.number
     place c.in_ok-node.node read at c.in_ok-node.ensures.grown reads (c.in_ok-node.ensures.location ∙ ap location_of path) c.in_ok-push.ensures.items
 

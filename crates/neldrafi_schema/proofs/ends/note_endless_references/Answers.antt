@@ -14,7 +14,7 @@ loop-number-preserved g c =
           node_noted g.E.RegexEngine.outcome (flag_at c.args.end.now) c.args.nodes.now c.args.places.now c.loop-number.number c.index-nodes-number.result c.index-nodes-number.is
           c.loop-number-test.true inside c.args.first.now c.loop-number.first c.match-nodes-number.first c.loop-number.invariant
           w.index-places-number.result (path_of w.deref.result.now) w.in-Keywords.keywords w.deref-in-Keywords.result.now w.note_endless.new.first w.index-places-number.is
-          (ap path_of w.deref.ensures.value ∙ sym (ap place_path w.index-places-number.is)) w.in-Keywords.is w.deref-in-Keywords.ensures.value w.first-is w.in_ok-note_endless.ensures
+          (ap path_of w.deref.ensures.value ∙ sym (ap (λ p. place_path p.place) w.index-places-number.is)) w.in-Keywords.is w.deref-in-Keywords.ensures.value w.first-is w.in_ok-note_endless.ensures
       | in_default w ↦
           node_ends g.E.RegexEngine.outcome (flag_at c.args.end.now) c.args.nodes.now c.args.places.now c.loop-number.number c.index-nodes-number.result c.index-nodes-number.is
           c.loop-number-test.true inside c.args.first.now c.loop-number.first c.match-nodes-number.first c.loop-number.invariant w.in_default.not-Keywords w.first-is

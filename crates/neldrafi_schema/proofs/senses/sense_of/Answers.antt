@@ -16,8 +16,17 @@ returns-in-Draft4Identifier-clause-sense g c = λ outcome. elim c.in-Draft4Ident
 pub returns-in-Draft4Identifier-clause-leads : goal.returns-in-Draft4Identifier-clause-leads
 returns-in-Draft4Identifier-clause-leads g c = λ documents there. c.identifier_sense.ensures.leads documents
 
+pub returns-in-Anchor-clause-sense : goal.returns-in-Anchor-clause-sense
+returns-in-Anchor-clause-sense g c = λ outcome. elim c.in-Anchor.is [
+  | inl is ↦ rw is (c.anchor_sense.ensures.sense outcome)
+  | inr is ↦ rw is (c.anchor_sense.ensures.sense outcome)
+]
+
 pub returns-in-Anchor-clause-leads : goal.returns-in-Anchor-clause-leads
 returns-in-Anchor-clause-leads g c = λ documents there. c.anchor_sense.ensures.leads documents
+
+pub returns-in-RecursiveAnchor-clause-leads : goal.returns-in-RecursiveAnchor-clause-leads
+returns-in-RecursiveAnchor-clause-leads g c = λ documents there. c.flag_sense.ensures.leads documents
 
 pub returns-in-AnyOf-clause-sense : goal.returns-in-AnyOf-clause-sense
 returns-in-AnyOf-clause-sense g c = λ outcome.
@@ -78,7 +87,7 @@ returns-in-AdditionalItems-clause-sense g c = λ outcome.
 pub returns-in_default-clause-sense : goal.returns-in_default-clause-sense
 returns-in_default-clause-sense g c = λ outcome.
     c.assertion_sense.ensures.sense outcome (path_of c.args.member.now.path.now) (path_of c.args.member.now.at.now)
-    (assertion_left c.args.known c.in_default.not-Dialect c.in_default.not-Draft4Identifier c.in_default.not-Identifier c.in_default.not-Anchor c.in_default.not-AllOf c.in_default.not-AnyOf c.in_default.not-OneOf c.in_default.not-Properties c.in_default.not-Definitions c.in_default.not-Defs c.in_default.not-Dependencies c.in_default.not-PropertyNames c.in_default.not-Contains c.in_default.not-DependentSchemas c.in_default.not-PrefixItems c.in_default.not-Unevaluated c.in_default.not-If c.in_default.not-Not c.in_default.not-Then c.in_default.not-Else c.in_default.not-AdditionalProperties c.in_default.not-Items c.in_default.not-AdditionalItems c.in_default.not-PatternProperties c.in_default.not-Reference c.in_default.not-Text c.in_default.not-Unknown)
+    (assertion_left c.args.known c.in_default.not-Dialect c.in_default.not-Draft4Identifier c.in_default.not-Identifier c.in_default.not-Anchor c.in_default.not-DynamicAnchor c.in_default.not-RecursiveAnchor c.in_default.not-DynamicReference c.in_default.not-RecursiveReference c.in_default.not-AllOf c.in_default.not-AnyOf c.in_default.not-OneOf c.in_default.not-Properties c.in_default.not-Definitions c.in_default.not-Defs c.in_default.not-Dependencies c.in_default.not-PropertyNames c.in_default.not-Contains c.in_default.not-DependentSchemas c.in_default.not-PrefixItems c.in_default.not-Unevaluated c.in_default.not-If c.in_default.not-Not c.in_default.not-Then c.in_default.not-Else c.in_default.not-AdditionalProperties c.in_default.not-Items c.in_default.not-AdditionalItems c.in_default.not-PatternProperties c.in_default.not-Reference c.in_default.not-Text c.in_default.not-Unknown)
 
 pub returns-in_default-clause-leads : goal.returns-in_default-clause-leads
 returns-in_default-clause-leads g c = λ documents there. c.assertion_sense.ensures.leads documents

@@ -4,7 +4,7 @@ use Rattle.serde_json.specs.View.{members_view, view}
 use Rattle.strkw_keywords.specs.Object.{Settings}
 use Rattle.neldrafi_schema.specs.Settings.{config_settings}
 use Rattle.neldrafi_schema.specs.machine.Compiled.{path_of}
-use Rattle.neldrafi_schema.specs.machine.Places.{documents_of, paths_of}
+use Rattle.neldrafi_schema.specs.machine.Places.{documents_of, scope_of, scoped_paths}
 use Rattle.neldrafi_schema.specs.machine.Leads.{boolean_of}
 use Rattle.neldrafi_schema.proofs.Bodies.{false_reads, is_later, is_neither, is_object, other_reads, true_reads}
 use Rattle.neldrafi_schema.proofs.reading.Reader.read_body.Goals as goal
@@ -22,7 +22,8 @@ returns-in-Some-true-clause-read g c =
     let d = view c.args.value.now in
     let is : boolean_of s.draft d ≡ Some true = search rules in
     let later = is_later s.draft d true is in
-    true_reads g.B.Engine.RegexEngine.outcome s.lists s (documents_of c.args.places.now.documents) (path_of c.args.path.now) d (paths_of c.args.places.now.places.items) c.args.first.now
+    true_reads g.B.Engine.RegexEngine.outcome s.lists s (documents_of c.args.places.now.documents) (scope_of c.args.scope.now) (path_of c.args.path.now) d
+    (scoped_paths c.args.places.now.places.items) c.args.first.now
     later.0 later.1
 
 pub returns-in-Some-false-clause-read : goal.returns-in-Some-false-clause-read
@@ -33,7 +34,8 @@ returns-in-Some-false-clause-read g c =
     let d = view c.args.value.now in
     let is : boolean_of s.draft d ≡ Some false = search rules in
     let later = is_later s.draft d false is in
-    false_reads g.B.Engine.RegexEngine.outcome s.lists s (documents_of c.args.places.now.documents) (path_of c.args.path.now) d (paths_of c.args.places.now.places.items) c.args.first.now
+    false_reads g.B.Engine.RegexEngine.outcome s.lists s (documents_of c.args.places.now.documents) (scope_of c.args.scope.now) (path_of c.args.path.now) d
+    (scoped_paths c.args.places.now.places.items) c.args.first.now
     later.0 later.1
 
 pub returns-in_ok-note-in-None-boolean_of-clause-read : goal.returns-in_ok-note-in-None-boolean_of-clause-read
@@ -44,5 +46,6 @@ returns-in_ok-note-in-None-boolean_of-clause-read g c =
     let d = view c.args.value.now in
     let is : boolean_of s.draft d ≡ None = search rules in
     let no_object : as_object d ≡ None = search rules in
-    other_reads g.B.Engine.RegexEngine.outcome s.lists s (documents_of c.args.places.now.documents) (path_of c.args.path.now) d (paths_of c.args.places.now.places.items) c.args.first.now
+    other_reads g.B.Engine.RegexEngine.outcome s.lists s (documents_of c.args.places.now.documents) (scope_of c.args.scope.now) (path_of c.args.path.now) d
+    (scoped_paths c.args.places.now.places.items) c.args.first.now
     c.note.new.first (is_neither s.draft d is) no_object c.in_ok-note-in-None-boolean_of.ensures

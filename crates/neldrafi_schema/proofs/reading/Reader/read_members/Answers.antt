@@ -8,7 +8,7 @@ use Rattle.neldrafi_schema.specs.Reading.{KnownSays}
 use Rattle.neldrafi_schema.specs.machine.Said.{Always, said_keywords}
 use Rattle.neldrafi_schema.specs.Settings.{config_settings}
 use Rattle.neldrafi_schema.specs.machine.Compiled.{path_of}
-use Rattle.neldrafi_schema.specs.machine.Places.{documents_of, paths_of}
+use Rattle.neldrafi_schema.specs.machine.Places.{documents_of, scope_of, scoped_paths}
 use Rattle.neldrafi_schema.specs.Documents.{Documents}
 use Rattle.neldrafi_schema.proofs.Finding.{IsAmong, all_found, value_below}
 use Rattle.neldrafi_schema.proofs.Members.{ReadSoFar, nothing_read, read_all, said_keyword, said_malformed, said_malformed_at, said_nothing}
@@ -28,7 +28,7 @@ loop-name-init g c =
     let same : c.into_iter-name-iterator.result ≡ all = search rules in record {
       read =
           rw (same, c.new-keywords.ensures.items) (nothing_read g.B.Engine.RegexEngine.outcome _ (documents_of c.args.places.now.documents)
-          (path_of c.args.path.now) (members_view all) c.args.places.now c.args.first.now
+          (scope_of c.args.scope.now) (path_of c.args.path.now) (members_view all) c.args.places.now c.args.first.now
           c.requires.table);
       found = λ name d is. all_found all all c.iter-name-items.ensures.found name d (subst (λ es. IsAmong name d (members_view es)) same is);
     }
@@ -56,29 +56,30 @@ loop-name-preserved g c =
     let outcome = g.B.Engine.RegexEngine.outcome in
     let s = settings g (goal.at.loop-name-preserved g c).After-new-keywords in
     let documents = documents_of c.args.places.now.documents in
+    let scope = scope_of c.args.scope.now in
     let path = path_of c.args.path.now in
     let all = members_view c.args.object.now.entries in
     let name = string_bytes c.in-Some.name.now in
     let d = view c.in-Some.value.now in
     let steps = c.in-Some.ensures.steps in
-    let before : ReadSoFar outcome s documents path all c.args.places.now c.args.first.now
+    let before : ReadSoFar outcome s documents scope path all c.args.places.now c.args.first.now
     (member name d (members_view c.next.new.self)) c.loop-name.places c.loop-name.first c.loop-name.keywords.items =
-    subst (λ es. ReadSoFar outcome s documents path all c.args.places.now c.args.first.now
+    subst (λ es. ReadSoFar outcome s documents scope path all c.args.places.now c.args.first.now
     (members_view es) c.loop-name.places c.loop-name.first c.loop-name.keywords.items)
     steps c.loop-name.invariant.read in
     let Says =
-    λ (documents : Documents) (n : List ℕ). Always (paths_of c.read_member.new.places.places.items)
-    (λ numbered. KnownSays numbered s documents path all n (known_named s.draft all n) d
+    λ (documents : Documents) (n : List ℕ). Always (scoped_paths c.read_member.new.places.places.items) scope
+    (λ numbered. KnownSays numbered s documents scope path all n (known_named s.draft all n) d
     (said_keywords outcome n c.in_ok-read_member.field-0)) in
     let says = subst (λ documents. Says documents name) c.loop-name.invariant.read.grown.documents
     (subst (Says (documents_of c.loop-name.places.documents)) c.as_str-name.ensures.value c.in_ok-read_member.ensures.says) in
     record {
       read = elim c.match-branch-3.branch [
-        | in-Nothing w ↦ said_nothing outcome s documents path all c.args.places.now c.args.first.now name d
+        | in-Nothing w ↦ said_nothing outcome s documents scope path all c.args.places.now c.args.first.now name d
             (members_view c.next.new.self) c.loop-name.places c.read_member.new.places
             c.loop-name.first c.match-branch-3.first c.loop-name.keywords.items c.match-branch-3.keywords.items c.in_ok-read_member.field-0 before c.in_ok-read_member.ensures.grown
             says c.in_ok-read_member.ensures.ready w.in-Nothing.is w.first-is (ap (λ v. v.items) w.keywords-is)
-        | in-Keyword+in_ok-push-in-Keyword w ↦ said_keyword outcome s documents path all c.args.places.now c.args.first.now name d
+        | in-Keyword+in_ok-push-in-Keyword w ↦ said_keyword outcome s documents scope path all c.args.places.now c.args.first.now name d
             (members_view c.next.new.self) c.loop-name.places
             c.read_member.new.places c.loop-name.first c.match-branch-3.first c.loop-name.keywords.items c.match-branch-3.keywords.items c.in_ok-read_member.field-0 before
             c.in_ok-read_member.ensures.grown says c.in_ok-read_member.ensures.ready w.in-Keyword.keyword w.push.new.self.items w.in-Keyword.is w.first-is
@@ -86,7 +87,7 @@ loop-name-preserved g c =
         | in-Malformed+in_ok-note-in-Malformed w ↦
             let there : path_of w.deref-in-Malformed.result.now ≡ path ++ key name ∷ [] =
             ap path_of w.deref-in-Malformed.ensures.value ∙ (c.in_ok-at.ensures ∙ ap (λ n. path ++ key n ∷ []) c.as_str-name.ensures.value) in
-            said_malformed outcome s documents path all c.args.places.now c.args.first.now name d
+            said_malformed outcome s documents scope path all c.args.places.now c.args.first.now name d
             (members_view c.next.new.self) c.loop-name.places c.read_member.new.places
             c.loop-name.first c.match-branch-3.first c.loop-name.keywords.items c.match-branch-3.keywords.items c.in_ok-read_member.field-0 before c.in_ok-read_member.ensures.grown
             says c.in_ok-read_member.ensures.ready w.in-Malformed.kind w.note.new.first
@@ -94,7 +95,7 @@ loop-name-preserved g c =
             w.in_ok-note-in-Malformed.ensures
         | in-MalformedAt+in_ok-below-in-MalformedAt+in_ok-note-in-MalformedAt w ↦
             let there : path_of w.deref-in-MalformedAt-2.result.now ≡ (path ++ key name ∷ []) ++ key (string_bytes w.in-MalformedAt.name) ∷ [] = search rules in
-            said_malformed_at outcome s documents path all c.args.places.now c.args.first.now name d
+            said_malformed_at outcome s documents scope path all c.args.places.now c.args.first.now name d
             (members_view c.next.new.self) c.loop-name.places c.read_member.new.places
             c.loop-name.first c.match-branch-3.first c.loop-name.keywords.items c.match-branch-3.keywords.items c.in_ok-read_member.field-0 before c.in_ok-read_member.ensures.grown
             says c.in_ok-read_member.ensures.ready w.in-MalformedAt.name w.in-MalformedAt.kind w.note-in-MalformedAt.new.first
@@ -107,8 +108,8 @@ loop-name-preserved g c =
 pub returns-clause-read : goal.returns-clause-read
 returns-clause-read g c =
     let s = settings g (goal.at.returns-clause-read g c).After-new-keywords in
-    read_all g.B.Engine.RegexEngine.outcome s (documents_of c.args.places.now.documents) (path_of c.args.path.now)
+    read_all g.B.Engine.RegexEngine.outcome s (documents_of c.args.places.now.documents) (scope_of c.args.scope.now) (path_of c.args.path.now)
     (members_view c.args.object.now.entries) c.args.places.now c.args.first.now c.loop-name.places c.loop-name.first c.loop-name.keywords
-    (subst (λ es. ReadSoFar g.B.Engine.RegexEngine.outcome s (documents_of c.args.places.now.documents) (path_of c.args.path.now)
+    (subst (λ es. ReadSoFar g.B.Engine.RegexEngine.outcome s (documents_of c.args.places.now.documents) (scope_of c.args.scope.now) (path_of c.args.path.now)
     (members_view c.args.object.now.entries) c.args.places.now c.args.first.now
     (members_view es) c.loop-name.places c.loop-name.first c.loop-name.keywords.items) c.in-None.ensures.steps.0 c.loop-name.invariant.read)

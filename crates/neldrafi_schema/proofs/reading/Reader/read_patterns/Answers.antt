@@ -7,6 +7,7 @@ use Rattle.strkw_keywords.specs.Validators.{assertions_of}
 use Rattle.neldrafi_schema.specs.Reading.{PatternsAre, numbered_by}
 use Rattle.neldrafi_schema.specs.Settings.{config_settings}
 use Rattle.neldrafi_schema.specs.machine.Compiled.{path_of}
+use Rattle.neldrafi_schema.specs.machine.Places.{scope_of}
 use Rattle.neldrafi_schema.specs.machine.Said.{ArePatternsReady, lead_of, patterns_of, said_keywords}
 use Rattle.neldrafi_schema.proofs.CompiledPatterns.{patterns_say, refused_say}
 use Rattle.neldrafi_schema.proofs.reading.Reader.read_patterns.Goals as goal
@@ -24,7 +25,7 @@ returns-in_ok-leads-in-Ok-clause-says g c =
     let is : o ≡ Some ms = search rules in
     let are = subst (λ r. PatternsAre s path name ms (patterns_of outcome name r)) c.in-Ok.is (c.in_ok-patterns.ensures.are name) in
     IfOk-weaker c.numbered.result _ _ (λ said says all extends.
-    patterns_say (numbered_by all) s path (path_of c.args.member.now.at.now) name o ms is (map (assertions_of outcome) c.in-Ok.patterns.items) (map lead_of c.in_ok-leads-in-Ok.leads.items)
+    patterns_say (numbered_by all (scope_of c.args.member.now.scope.now)) s path (path_of c.args.member.now.at.now) name o ms is (map (assertions_of outcome) c.in-Ok.patterns.items) (map lead_of c.in_ok-leads-in-Ok.leads.items)
     (said_keywords outcome name said) are c.requires.at c.in_ok-leads-in-Ok.ensures.paths (says all extends)) c.numbered.ensures.says
 
 pub returns-in_ok-leads-in-Ok-clause-ready : goal.returns-in_ok-leads-in-Ok-clause-ready
@@ -46,4 +47,4 @@ returns-in-Err-clause-says g c = λ all extends.
     let ms = members_view c.in-Some.members.now.entries in
     let is : o ≡ Some ms = search rules in
     let are = subst (λ r. PatternsAre s path name ms (patterns_of outcome name r)) c.in-Err.is (c.in_ok-patterns.ensures.are name) in
-    refused_say (numbered_by all) s path (path_of c.args.member.now.at.now) name o ms is _ _ _ are refl
+    refused_say (numbered_by all (scope_of c.args.member.now.scope.now)) s path (path_of c.args.member.now.at.now) name o ms is _ _ _ are refl
