@@ -6,7 +6,7 @@ use Rattle.std.proofs.lemmas.List.{length-append, length-replicate}
 use Rattle.std.proofs.lemmas.Option.{none-some, same_Some, slice_get-get_or}
 use Rattle.strkw_regex_core.specs.machine.MarkedMeaning.{Rounds, no_round, a_round}
 use Rattle.strkw_regex_core.specs.Meaning.{before, is_edge}
-use Rattle.strkw_regex_core.specs.Program.{Instruction}
+use Rattle.strkw_regex_core.specs.machine.Program.{Instruction}
 use Rattle.strkw_ecma.specs.machine.Chains.{is_often, numbers_of, ends_of, once, repeated}
 use Rattle.strkw_ecma.specs.machine.Links.{begins_with}
 use Rattle.strkw_regex_search.specs.machine.Machine.{class_reads}

@@ -5,9 +5,9 @@ use Rattle.std.proofs.lemmas.Bool.Decides.{nat_tests}
 use Rattle.std.proofs.lemmas.List.{append_assoc}
 use Rattle.std.proofs.lemmas.Option.{none-some, same_Some, slice_get_past}
 use Rattle.strkw_regex_core.specs.Tree.{start, end}
-use Rattle.strkw_regex_core.specs.OneCharLookahead.{are_told}
+use Rattle.strkw_regex_core.specs.machine.OneCharLookahead.{are_told}
 use Rattle.strkw_regex_core.specs.Meaning.{before, is_edge}
-use Rattle.strkw_regex_core.specs.Program.{Instruction, assert, program}
+use Rattle.strkw_regex_core.specs.machine.Program.{Instruction, assert, program}
 use Rattle.strkw_ecma.specs.machine.Chains.{is_often, numbers_of, ends_of, is_chained, once, repeated, AreChained, IsChainIn, HasOption}
 use Rattle.strkw_ecma.specs.machine.Chains.{AreBranchesOf, AreTabled, are_chained, is_other_chained}
 use Rattle.strkw_ecma.specs.machine.Links.{begins_with, AreTables}

@@ -6,7 +6,7 @@ use Rattle.strkw_regex_core.specs.Tree as tree
 use Rattle.strkw_regex_core.specs.machine.Expansion.{expand}
 use Rattle.strkw_regex_core.specs.machine.Times.{times_of}
 use Rattle.strkw_regex_core.specs.machine.MarkedPattern.{MarkedPattern, empty, class, look, cat, alt, star, plus, lookbehind, lookahead}
-use Rattle.strkw_regex_core.specs.LeadingLookahead.{Part, lead, is_apart_behind, part_of, fronts, rest, parts}
+use Rattle.strkw_regex_core.specs.machine.LeadingLookahead.{Part, lead, is_apart_behind, part_of, fronts, rest, parts}
 use Rattle.strkw_regex_core.specs.machine.Mirror.{target}
 use Rattle.strkw_regex_core.specs.machine.Positions.{is_unmarked}
 use Rattle.strkw_regex_search.specs.machine.Search.{are_parts_clean}

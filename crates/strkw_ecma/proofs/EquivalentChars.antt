@@ -9,7 +9,7 @@ use Rattle.strkw_regex_core.specs.machine.Positions.{reads, sees, leaves, step, 
 use Rattle.strkw_charset.specs.machine.CharClasses.{answers, TellsSets}
 use Rattle.strkw_regex_core.specs.machine.Boundaries.{sees_boundary, has_boundary}
 use Rattle.strkw_ecma.specs.machine.Told.{TellsGlance, Tells}
-use Rattle.strkw_regex_core.specs.Program.{asks_word}
+use Rattle.strkw_regex_core.specs.machine.Program.{asks_word}
 use Rattle.strkw_charset.specs.declared.tree.CharSet.{CharSet}
 use Rattle.strkw_charset.proofs.Booleans.{or_case, or_left, or_right}
 

@@ -9,7 +9,7 @@ use Rattle.strkw_pattern.specs.declared.engine.Outcome.TheVariants.{Match, NoMat
 use Rattle.strkw_regex_grammar.specs.NullEscape.{is_apart}
 use Rattle.strkw_regex_grammar.specs.Regex.{Disjunction}
 use Rattle.strkw_regex_grammar.proofs.OneTree.{one_tree as one_tree_of}
-use Rattle.strkw_regex_core.specs.LeadingLookahead.{parts, steps_of_parts}
+use Rattle.strkw_regex_core.specs.machine.LeadingLookahead.{parts, steps_of_parts}
 use Rattle.strkw_regex_core.specs.Size.{max_steps}
 use Rattle.strkw_regex_core.specs.Meaning.{Found}
 use Rattle.strkw_regex_core.specs.machine.MarkedPattern.{MarkedPattern}
@@ -19,6 +19,7 @@ use Rattle.strkw_regex_reader.specs.Patterns.{pattern}
 use Rattle.strkw_regex_core.specs.machine.Expansion.{expand}
 use Rattle.strkw_regex_core.proofs.Expansions.{found_expanded}
 use Rattle.strkw_regex_reader.proofs.OrderedBounds.{ordered_tree}
+use Rattle.strkw_regex_reader.proofs.TreeTerms.{tree_steps}
 use Rattle.strkw_regex_reader.specs.machine.Building.{when}
 use Rattle.strkw_regex_reader.specs.machine.Reading.{read_all, read_short, read_pattern, keep_small}
 use Rattle.strkw_regex_reader.proofs.ReadTrees.{IsReadAs, complete, read_sound, short_enough}
@@ -53,7 +54,8 @@ small_tree source q p true e a l r h =
         made = made source tree.0 tree.1 a l;
         taken = tree.1.taken;
         short = l;
-        small = subst (λ w. steps_of_parts (parts w) ≤ max_steps) (sym tree.2) (leb-true (steps_of_parts (parts q)) max_steps e);
+        small = subst (λ n. n ≤ max_steps) (ap (λ w. steps_of_parts (parts w)) (sym tree.2) ∙ tree_steps tree.0)
+            (leb-true (steps_of_parts (parts q)) max_steps e);
       },
       tree.2 ∙ same_pattern q p h,
     )
@@ -96,7 +98,8 @@ read_is source d p =
     record { formed = p.made.formed; spelled = p.made.spelled; taken = p.taken; distinct = p.made.distinct } in
     ap (λ (b : Bool). if b then keep_small (read_short source) else None) p.made.apart
     ∙ ap keep_small (short_enough source p.short ∙ complete source d read)
-    ∙ ap (λ (b : Bool). when b (Some (expand (pattern d)))) (le-leb (steps_of_parts (parts (expand (pattern d)))) max_steps p.small)
+    ∙ ap (λ (b : Bool). when b (Some (expand (pattern d))))
+    (le-leb (steps_of_parts (parts (expand (pattern d)))) max_steps (subst (λ n. n ≤ max_steps) (sym (tree_steps d)) p.small))
 
 -- the outcome is a match
 is_match : Outcome → Bool

@@ -8,8 +8,8 @@ use Rattle.strkw_regex_core.specs.machine.MarkedPattern.{MarkedPattern, empty, c
 use Rattle.strkw_charset.specs.Membership.{differ}
 use Rattle.strkw_regex_core.specs.Meaning.{before, is_edge, Unless}
 use Rattle.strkw_regex_core.specs.machine.MarkedMeaning.{Matches, Found}
-use Rattle.strkw_regex_core.specs.LeadingLookahead.{Part, first_lead, lead, lead_behind, reads_nothing, is_far, is_apart_behind, part_of, fronts, rest, parts}
-use Rattle.strkw_regex_core.specs.LeadingLookahead.{AreFound}
+use Rattle.strkw_regex_core.specs.machine.LeadingLookahead.{Part, first_lead, lead, lead_behind, reads_nothing, is_far, is_apart_behind, part_of, fronts, rest, parts}
+use Rattle.strkw_regex_core.specs.machine.LeadingLookahead.{AreFound}
 use Rattle.strkw_regex_core.specs.machine.Positions.{is_unmarked}
 use Rattle.strkw_regex_core.specs.machine.Mirror.{target, sought_in}
 use Rattle.strkw_regex_search.specs.machine.Search.{search, are_parts_found, are_parts_clean}

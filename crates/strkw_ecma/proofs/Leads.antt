@@ -2,8 +2,8 @@
 use Rattle.std.proofs.Common.{◌≡◌, ◌↔◌, ℕ, Bool, true, false, ◌&&◌, List, [], ◌∷◌, ◌++◌, refl, sym, subst, ◌∙◌, true≢false}
 use Rattle.strkw_regex_core.specs.machine.MarkedPattern.{MarkedPattern, empty, class, look, cat, alt, star, plus, lookbehind, lookahead}
 use Rattle.strkw_regex_core.specs.machine.MarkedMeaning.{Matches}
-use Rattle.strkw_regex_core.specs.Program.{Instruction, read, assert, peek, fork, other, join, star_begin, star_end, plus_begin, plus_end, look_begin}
-use Rattle.strkw_regex_core.specs.Program.{look_end, program, alternatives}
+use Rattle.strkw_regex_core.specs.machine.Program.{Instruction, read, assert, peek, fork, other, join, star_begin, star_end, plus_begin, plus_end, look_begin}
+use Rattle.strkw_regex_core.specs.machine.Program.{look_end, program, alternatives}
 use Rattle.strkw_charset.specs.declared.tree.CharSet.{CharSet}
 use Rattle.strkw_regex_core.proofs.Options.{by_class, by_option}
 use Rattle.strkw_charset.proofs.Booleans.{and_true, and_left, and_right}

@@ -12,7 +12,7 @@ use Rattle.strkw_text.specs.Delimiters.{Without}
 use Rattle.strkw_text.proofs.Delimiters.{Without-append}
 use Rattle.strkw_regex_core.specs.machine.MarkedPattern.{MarkedPattern, empty, class, look, cat, alt, star, plus, lookbehind, lookahead}
 use Rattle.strkw_charset.specs.Membership.{in_sets, is_member}
-use Rattle.strkw_regex_core.specs.OneCharLookahead.{are_told}
+use Rattle.strkw_regex_core.specs.machine.OneCharLookahead.{are_told}
 use Rattle.strkw_regex_core.specs.machine.MarkedMeaning.{Matches}
 use Rattle.strkw_regex_core.specs.machine.Mirror.{along}
 use Rattle.strkw_regex_core.specs.machine.Times.{Times, any_times, some_times, once_at_most, exact_times, least_times, range_times, repetition}

@@ -7,10 +7,10 @@ use Rattle.strkw_pattern.specs.Matcher.{outcome_of}
 use Rattle.strkw_regex_core.specs.machine.MarkedPattern.{MarkedPattern}
 use Rattle.strkw_charset.specs.Membership.{differ}
 use Rattle.strkw_regex_core.specs.machine.MarkedMeaning.{Found}
-use Rattle.strkw_regex_core.specs.OneCharLookahead.{are_told}
+use Rattle.strkw_regex_core.specs.machine.OneCharLookahead.{are_told}
 use Rattle.strkw_regex_core.specs.Size.{max_steps}
 use Rattle.strkw_regex_core.specs.machine.Mirror.{mirror_if, along, is_backward, target, sought_in}
-use Rattle.strkw_regex_core.specs.LeadingLookahead.{Part, parts, steps_of_parts}
+use Rattle.strkw_regex_core.specs.machine.LeadingLookahead.{Part, parts, steps_of_parts}
 use Rattle.strkw_regex_core.specs.machine.Positions.{is_unmarked}
 use Rattle.strkw_regex_core.specs.machine.Sizes.{cap_steps}
 use Rattle.strkw_regex_reader.specs.machine.Building.{when}

@@ -14,8 +14,8 @@ use Rattle.strkw_charset.specs.machine.CharClasses.{TellsSets}
 use Rattle.strkw_regex_core.specs.machine.Boundaries.{sees_boundary, has_boundary}
 use Rattle.strkw_ecma.specs.machine.Told.{TellsGlance, Tells}
 use Rattle.strkw_charset.specs.Sets.{word_characters}
-use Rattle.strkw_regex_core.specs.Program.{Instruction, read, assert, peek, fork, other, join, star_begin, star_end, plus_begin, plus_end, look_begin}
-use Rattle.strkw_regex_core.specs.Program.{look_end, glance, program}
+use Rattle.strkw_regex_core.specs.machine.Program.{Instruction, read, assert, peek, fork, other, join, star_begin, star_end, plus_begin, plus_end, look_begin}
+use Rattle.strkw_regex_core.specs.machine.Program.{look_end, glance, program}
 use Rattle.strkw_regex_search.specs.machine.Instructions.{turn_instruction, read_instruction, peek_instruction, instructions, are_within}
 use Rattle.strkw_charset.proofs.Booleans.{and_left, and_right, or_left, or_right}
 use Rattle.strkw_regex_search.proofs.Few.{GoesOver, both_by_parts}

@@ -1,5 +1,4 @@
--- The grammar and the meaning of a pattern's text. How large it may be is counted on what is
--- searched of it.
+-- The grammar and the meaning of a pattern's text, and how large it may be.
 use Rattle.std.specs.Prelude.{◌≡◌, ◌↔◌, ◌⊎◌, ℕ, ◌≤◌, true, false, not, IsTrue, List, [], length}
 use Rattle.strkw_pattern.specs.declared.engine.Outcome.TheVariants.{Match, NoMatch}
 use Rattle.strkw_regex_grammar.specs.Regex.{Disjunction, parts, IsMadeOf}
@@ -10,10 +9,9 @@ use Rattle.strkw_charset.specs.Sets.{word_characters}
 use Rattle.strkw_charset.specs.declared.tree.CharSet.{CharSet}
 use Rattle.strkw_regex_grammar.specs.Codes.{max_code_point}
 use Rattle.strkw_regex_core.specs.Size.{max_steps}
-use Rattle.strkw_regex_core.specs.LeadingLookahead.{parts as parts_of_pattern, steps_of_parts}
+use Rattle.strkw_regex_core.specs.WholeSize.{whole_size}
 use Rattle.strkw_regex_core.specs.Meaning.{Found}
 use Rattle.strkw_regex_reader.specs.Patterns.{pattern}
-use Rattle.strkw_regex_core.specs.machine.Expansion.{expand}
 use Rattle.strkw_regex_reader.specs.machine.Taken.{takes_pattern}
 use Rattle.strkw_ecma.specs.machine.Outcomes.{pattern_outcome}
 
@@ -45,7 +43,7 @@ pub record IsPattern (source : List ℕ) (d : Disjunction) : Type 0 where
   pub made : IsMadeOf source (parts d)
   pub taken : takes 0 d ≡ true
   pub short : length source ≤ max_length
-  pub small : steps_of_parts (parts_of_pattern (expand (pattern d))) ≤ max_steps
+  pub small : whole_size (pattern d) ≤ max_steps
 
 -- what is taken is a pattern, each pattern is taken, it has one tree, and it comes to a match
 -- exactly where that is found, and to none elsewhere

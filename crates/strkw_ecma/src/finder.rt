@@ -2,9 +2,10 @@
 
 ghost use Rattle.std.specs.Prelude.{◌≡◌, ◌≤◌, ◌||◌, not, ℕ, Bool, List, true, false, IsTrue, IsOk, IfOk, IfSome, None, Some};
 ghost use Rattle.std.specs.Str.{chars};
-ghost use Rattle.strkw_regex_core.specs.OneCharLookahead.{are_told};
+ghost use Rattle.strkw_regex_core.specs.machine.OneCharLookahead.{are_told};
 ghost use Rattle.strkw_regex_core.specs.machine.Mirror.{along};
-ghost use Rattle.strkw_regex_core.specs.Size.{steps, search_steps, max_steps};
+ghost use Rattle.strkw_regex_core.specs.Size.{max_steps};
+ghost use Rattle.strkw_regex_core.specs.machine.ProgramSteps.{steps, search_steps};
 ghost use Rattle.strkw_ecma.specs.machine.Chains.{are_chained, AreTabled};
 ghost use Rattle.strkw_regex_search.specs.machine.Machine.{pattern_of};
 ghost use Rattle.strkw_regex_core.specs.machine.Positions.{is_clean, is_unmarked};

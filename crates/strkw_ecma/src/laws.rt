@@ -4,11 +4,12 @@ ghost use Rattle.std.specs.Prelude.{◌≡◌, ℕ, ◌*◌, ◌≤◌, ◌↔�
 ghost use Rattle.strkw_ecma.specs.Laws.{AreComplements, any_character, IsExact, IsPattern};
 ghost use Rattle.strkw_ecma.specs.Laws.{word_edge, no_word_edge};
 ghost use Rattle.strkw_regex_core.specs.Tree.{Pattern, start, end, boundary, no_boundary, look, lookbehind, lookahead};
-ghost use Rattle.strkw_regex_core.specs.LeadingLookahead.{AreFound, parts};
+ghost use Rattle.strkw_regex_core.specs.machine.LeadingLookahead.{AreFound, parts};
 ghost use Rattle.strkw_regex_core.specs.Matchers.{AreOrdered, backward, Continuation, forward, matcher};
 ghost use Rattle.strkw_regex_core.specs.Meaning.{Found, Matches};
 ghost use Rattle.strkw_regex_core.specs.Mirror.{mirror};
 ghost use Rattle.strkw_regex_core.specs.Size.{max_steps};
+ghost use Rattle.strkw_regex_core.specs.WholeSize.{whole_size};
 ghost use Rattle.strkw_regex_core.specs.machine.Expansion.{expand};
 ghost use Rattle.strkw_regex_core.specs.machine.MarkedMeaning.{Found as FoundMarked, Matches as MatchesMarked};
 ghost use Rattle.strkw_regex_core.specs.machine.MarkedPattern.{MarkedPattern};
@@ -31,12 +32,14 @@ pub fn negative_sets_are_complements()
     ensures words { AreComplements word_characters non_word_characters }
 {}
 
-/// The searches by the programs of the parts of each pattern that is taken, with their steps counted, come to the
-/// answers of the definition, in at most 10,400 steps together for each character of the text and for its end. A step
-/// is an instruction that is asked, backwards or forwards, and of a class one more for each 32 ranges, of which a
-/// property counts as eight.
+/// The searches by the programs of the parts of each pattern, with their steps counted, come to the answers of the
+/// definition, in at most twice as many steps together as the pattern is large, for each character of the text and for
+/// its end. So they take at most 10,400 for a pattern that is taken. A step is an instruction that is asked, backwards
+/// or forwards, and of a class one more for each 32 ranges, of which a property counts as eight.
 pub fn searches_are_bounded()
-    ensures { (source : List ℕ) (d : Disjunction) → IsPattern source d
+    ensures by_size { (d : Disjunction) (text : List ℕ)
+        → AreSearchedWithin (2 * whole_size (pattern d)) (parts (expand (pattern d))) text }
+    ensures taken { (source : List ℕ) (d : Disjunction) → IsPattern source d
         → (text : List ℕ) → AreSearchedWithin (2 * max_steps) (parts (expand (pattern d))) text }
 {}
 

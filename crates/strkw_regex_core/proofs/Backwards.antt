@@ -1,10 +1,10 @@
 -- Which lookbehinds are told from the end of a text on, said of patterns of each kind.
 use Rattle.std.proofs.Common.{◌≡◌, Bool, true, false, ◌&&◌, ◌||◌, if◌then◌else◌, refl, ap, ◌∙◌}
 use Rattle.strkw_regex_core.specs.machine.MarkedPattern.{MarkedPattern, cat}
-use Rattle.strkw_regex_core.specs.OneCharLookahead.{is_glance, are_told}
+use Rattle.strkw_regex_core.specs.machine.OneCharLookahead.{is_glance, are_told}
 use Rattle.strkw_regex_core.specs.machine.Mirror.{mirror}
 use Rattle.strkw_regex_core.specs.machine.Times.{Times, quantified_pattern}
-use Rattle.strkw_regex_core.specs.Program.{is_empty}
+use Rattle.strkw_regex_core.specs.machine.Program.{is_empty}
 use Rattle.strkw_regex_core.specs.machine.Shape.{is_never}
 use Rattle.strkw_regex_core.proofs.MirrorEquivalence.{mirror_nothing, times_mirror}
 use Rattle.strkw_regex_core.proofs.Shapes.{same_told}

@@ -6,8 +6,8 @@ use Rattle.strkw_regex_core.specs.machine.MarkedPattern.{MarkedPattern, empty, c
 use Rattle.strkw_regex_core.specs.Meaning.{before}
 use Rattle.strkw_regex_core.specs.machine.MarkedMeaning.{Matches}
 use Rattle.strkw_regex_core.specs.machine.Positions.{sees, Rest, Crosses, Kept, is_clean}
-use Rattle.strkw_regex_core.specs.Program.{is_empty}
-use Rattle.strkw_regex_core.specs.OneCharLookahead.{is_glance, are_told}
+use Rattle.strkw_regex_core.specs.machine.Program.{is_empty}
+use Rattle.strkw_regex_core.specs.machine.OneCharLookahead.{is_glance, are_told}
 use Rattle.strkw_regex_core.proofs.Steps.{same_meaning, forwards, rest_forwards, unless_differs, left, stepped, reads_some, Says, Goes, Went, goes_on}
 use Rattle.strkw_regex_core.proofs.Steps.{goes_back}
 use Rattle.strkw_charset.proofs.Booleans.{and_left, and_right, or_case, or_left, or_right}

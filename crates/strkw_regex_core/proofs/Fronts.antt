@@ -6,8 +6,8 @@ use Rattle.strkw_regex_core.specs.Tree.{start}
 use Rattle.strkw_regex_core.specs.machine.MarkedPattern.{MarkedPattern, empty, class, look, cat, alt, star, plus, lookbehind, lookahead}
 use Rattle.strkw_regex_core.specs.machine.Times.{Times, any_times, some_times, once_at_most, exact_times, least_times, range_times}
 use Rattle.strkw_regex_core.specs.machine.Times.{quantified_pattern}
-use Rattle.strkw_regex_core.specs.Program.{is_empty}
-use Rattle.strkw_regex_core.specs.LeadingLookahead.{Part, first_lead, lead, lead_behind, reads_nothing, is_far, is_apart_behind, part_of, fronts, rest}
+use Rattle.strkw_regex_core.specs.machine.Program.{is_empty}
+use Rattle.strkw_regex_core.specs.machine.LeadingLookahead.{Part, first_lead, lead, lead_behind, reads_nothing, is_far, is_apart_behind, part_of, fronts, rest}
 use Rattle.strkw_regex_core.specs.machine.Fronts.{Cuts, part_view, parts_view}
 use Rattle.strkw_regex_core.specs.machine.Shape.{outline_pattern, outline_node, is_plain, plain_node, quantifier_of}
 use Rattle.strkw_regex_core.specs.declared.counted_regex.CountedRegex.{CountedRegex}

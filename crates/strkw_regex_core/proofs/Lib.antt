@@ -18,3 +18,6 @@ pub mod Places
 pub mod Matchers
 pub mod PatternMirrors
 pub mod Expansions
+pub mod Terms
+pub mod PatternSizes
+pub mod WholeSizes

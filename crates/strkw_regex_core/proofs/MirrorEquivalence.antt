@@ -5,9 +5,9 @@ use Rattle.strkw_regex_core.specs.machine.MarkedPattern.{MarkedPattern, empty, c
 use Rattle.strkw_regex_core.specs.machine.MarkedMeaning.{Rounds, no_round, a_round, Matches}
 use Rattle.strkw_regex_core.specs.machine.Times.{Times, any_times, some_times, once_at_most, exact_times, least_times, range_times, repetition}
 use Rattle.strkw_regex_core.specs.machine.Times.{quantified_pattern}
-use Rattle.strkw_regex_core.specs.Program.{is_class, is_empty, alternatives}
-use Rattle.strkw_regex_core.specs.OneCharLookahead.{is_glance, are_told}
-use Rattle.strkw_regex_core.specs.Size.{steps_of, steps, spread}
+use Rattle.strkw_regex_core.specs.machine.Program.{is_class, is_empty, alternatives}
+use Rattle.strkw_regex_core.specs.machine.OneCharLookahead.{is_glance, are_told}
+use Rattle.strkw_regex_core.specs.machine.ProgramSteps.{steps_of, steps, spread}
 use Rattle.strkw_regex_core.specs.machine.Mirror.{mirror}
 use Rattle.strkw_regex_core.specs.machine.Positions.{is_unmarked}
 use Rattle.strkw_regex_core.specs.machine.EquivalentPatterns.{EquivalentPatterns}

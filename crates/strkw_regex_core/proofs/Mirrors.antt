@@ -9,7 +9,7 @@ use Rattle.strkw_regex_core.specs.machine.MarkedPattern.{lookahead}
 use Rattle.strkw_charset.specs.Membership.{differ}
 use Rattle.strkw_regex_core.specs.machine.MarkedMeaning.{Rounds, no_round, a_round, Matches, Found}
 use Rattle.strkw_regex_core.specs.Meaning.{before, is_word, holds, Unless}
-use Rattle.strkw_regex_core.specs.Program.{is_empty}
+use Rattle.strkw_regex_core.specs.machine.Program.{is_empty}
 use Rattle.strkw_regex_core.specs.Mirror.{mirror_look}
 use Rattle.strkw_regex_core.specs.machine.Mirror.{mirror, mirror_if, along, is_backward, target, sought_in}
 use Rattle.strkw_regex_core.proofs.Behind.{nothing_is}

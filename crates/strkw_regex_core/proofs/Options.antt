@@ -2,7 +2,7 @@
 use Rattle.std.proofs.Common.{◌≡◌, Bool, List, refl}
 use Rattle.strkw_charset.specs.declared.tree.CharSet.{CharSet}
 use Rattle.strkw_regex_core.specs.machine.MarkedPattern.{MarkedPattern, empty, class, look, cat, alt, star, plus, lookbehind, lookahead}
-use Rattle.strkw_regex_core.specs.Program.{if_class, if_option}
+use Rattle.strkw_regex_core.specs.machine.Program.{if_class, if_option}
 
 -- a proof for a class and one for all patterns, of what is chosen by the first
 pub by_class : {A : Type 0} (P : A → Type 0) (p : MarkedPattern) (f : Bool → List CharSet → A) (x : A)

@@ -6,8 +6,8 @@ use Rattle.strkw_regex_core.specs.machine.MarkedPattern.{MarkedPattern, empty, c
 use Rattle.strkw_regex_core.specs.Tree.{start, end, boundary, no_boundary}
 use Rattle.strkw_regex_core.specs.machine.Times.{Times, any_times, some_times, once_at_most, exact_times, least_times, range_times, repetition}
 use Rattle.strkw_regex_core.specs.machine.Times.{quantified_pattern}
-use Rattle.strkw_regex_core.specs.OneCharLookahead.{is_glance, are_told}
-use Rattle.strkw_regex_core.specs.Program.{is_class, is_empty, glance, program, alternatives}
+use Rattle.strkw_regex_core.specs.machine.OneCharLookahead.{is_glance, are_told}
+use Rattle.strkw_regex_core.specs.machine.Program.{is_class, is_empty, glance, program, alternatives}
 use Rattle.strkw_charset.specs.declared.tree.CharSet.{CharSet}
 use Rattle.strkw_regex_core.specs.machine.Shape.{outline_pattern, outline_node, quantifier_of, is_never}
 use Rattle.strkw_regex_core.specs.declared.counted_regex.Quantifier.{Quantifier}
@@ -102,7 +102,7 @@ same_beside (Exactly (suc n)) p h = refl
 same_beside _ p h = refl
 
 -- a glance of what is repeated a number of times asks nothing
-no_glance : (n : ℕ) (p : MarkedPattern) → glance (repetition n p) ≡ []
+pub no_glance : (n : ℕ) (p : MarkedPattern) → glance (repetition n p) ≡ []
 no_glance zero p = refl
 no_glance (suc n) p = no_glance n p
 

@@ -5,9 +5,10 @@ use Rattle.std.proofs.lemmas.Bool.{leb-true, leb-false}
 use Rattle.std.proofs.lemmas.Bool.Decides.{nat_tests}
 use Rattle.strkw_regex_core.specs.machine.MarkedPattern.{MarkedPattern, empty, cat, alt, star, plus, lookbehind, lookahead}
 use Rattle.strkw_regex_core.specs.machine.Times.{repetition}
-use Rattle.strkw_regex_core.specs.Program.{Instruction, other, join, star_end, plus_end, look_end, is_class, is_empty, glance, program, alternatives}
-use Rattle.strkw_regex_core.specs.Size.{steps_of, steps, spread, search_steps, max_steps, max_term_steps}
-use Rattle.strkw_regex_core.specs.OneCharLookahead.{are_told}
+use Rattle.strkw_regex_core.specs.machine.Program.{Instruction, other, join, star_end, plus_end, look_end, is_class, is_empty, glance, program, alternatives}
+use Rattle.strkw_regex_core.specs.Size.{max_steps, max_term_steps}
+use Rattle.strkw_regex_core.specs.machine.ProgramSteps.{steps_of, steps, spread, search_steps}
+use Rattle.strkw_regex_core.specs.machine.OneCharLookahead.{are_told}
 use Rattle.strkw_regex_core.specs.machine.Sizes.{cap_steps}
 use Rattle.strkw_regex_core.proofs.Options.{by_class, by_option}
 
@@ -111,7 +112,7 @@ pub behind_steps : (n : Bool) (p : MarkedPattern) → steps (lookbehind n p) ≡
 behind_steps n p = omega (arith, more_steps (program p) (look_end n ∷ []))
 
 -- what is repeated takes so many times its steps
-repeated_steps : (n : ℕ) (p : MarkedPattern) → steps (repetition n p) ≡ n * steps p
+pub repeated_steps : (n : ℕ) (p : MarkedPattern) → steps (repetition n p) ≡ n * steps p
 repeated_steps zero p = omega arith
 repeated_steps (suc n) p = omega (arith, cat_steps p (repetition n p), repeated_steps n p)
 

@@ -3,8 +3,8 @@ use Rattle.std.proofs.Common.{◌≡◌, ℕ, zero, suc, Bool, true, false, ◌|
 use Rattle.strkw_regex_core.specs.machine.MarkedPattern.{MarkedPattern, empty, class, look, cat, alt, star, plus, lookbehind, lookahead}
 use Rattle.strkw_regex_core.specs.machine.Times.{Times, any_times, some_times, once_at_most, exact_times, least_times, range_times, repetition}
 use Rattle.strkw_regex_core.specs.machine.Times.{quantified_pattern}
-use Rattle.strkw_regex_core.specs.LeadingLookahead.{lead, is_apart_behind, rest}
-use Rattle.strkw_regex_core.specs.Program.{is_empty}
+use Rattle.strkw_regex_core.specs.machine.LeadingLookahead.{lead, is_apart_behind, rest}
+use Rattle.strkw_regex_core.specs.machine.Program.{is_empty}
 use Rattle.strkw_regex_core.specs.machine.Mirror.{mirror, mirror_if, is_backward, target}
 use Rattle.strkw_regex_core.specs.machine.Positions.{is_clean, is_unmarked}
 use Rattle.strkw_charset.proofs.Booleans.{and_true, and_left, and_right}

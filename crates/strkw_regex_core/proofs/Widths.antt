@@ -4,8 +4,8 @@ use Rattle.strkw_regex_core.specs.machine.MarkedPattern.{MarkedPattern, empty, c
 use Rattle.strkw_charset.specs.declared.tree.CharSet.{CharSet}
 use Rattle.strkw_regex_core.specs.machine.Times.{Times, any_times, some_times, once_at_most, exact_times, least_times, range_times, repetition}
 use Rattle.strkw_regex_core.specs.machine.Times.{quantified_pattern}
-use Rattle.strkw_regex_core.specs.Program.{is_class, is_empty, alternatives}
-use Rattle.strkw_regex_core.specs.Size.{steps_of, steps, spread}
+use Rattle.strkw_regex_core.specs.machine.Program.{is_class, is_empty, alternatives}
+use Rattle.strkw_regex_core.specs.machine.ProgramSteps.{steps_of, steps, spread}
 use Rattle.strkw_regex_core.specs.machine.Sizes.{cap_steps, spread_if}
 use Rattle.strkw_regex_core.proofs.PatternEquivalences.{spread_nothing, spread_class, spread_look}
 use Rattle.strkw_regex_core.proofs.Sizes.{behind_steps}
@@ -46,7 +46,7 @@ copies_spread zero p = refl
 copies_spread (suc n) p = ap (cat (spread p)) (copies_spread n p)
 
 -- marks go through a quantifier
-times_spread : (t : Times) (p : MarkedPattern) → spread (quantified_pattern t p) ≡ quantified_pattern t (spread p)
+pub times_spread : (t : Times) (p : MarkedPattern) → spread (quantified_pattern t p) ≡ quantified_pattern t (spread p)
 times_spread any_times p = refl
 times_spread some_times p = refl
 times_spread once_at_most p = refl

@@ -2,9 +2,8 @@ pub mod Tree
 pub mod Meaning
 pub mod Matchers
 pub mod Mirror
-pub mod Program
-pub mod OneCharLookahead
+pub mod Near
 pub mod Size
-pub mod LeadingLookahead
+pub mod WholeSize
 -- How the code reads and searches.
 pub mod machine

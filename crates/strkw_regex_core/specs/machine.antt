@@ -11,3 +11,7 @@ pub mod Shape
 pub mod Sizes
 pub mod Fronts
 pub mod Sight
+pub mod Program
+pub mod OneCharLookahead
+pub mod ProgramSteps
+pub mod LeadingLookahead

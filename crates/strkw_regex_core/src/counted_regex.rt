@@ -3,7 +3,7 @@
 ghost use Rattle.std.specs.Prelude.{◌≡◌, true, false, IfOk, MatchOption};
 ghost use Rattle.strkw_regex_core.specs.machine.MarkedPattern.{class as spec_class, cat, alt, lookbehind, lookahead};
 ghost use Rattle.strkw_regex_core.specs.machine.Times.{quantified_pattern, times_of};
-ghost use Rattle.strkw_regex_core.specs.Program.{is_class, is_empty};
+ghost use Rattle.strkw_regex_core.specs.machine.Program.{is_class, is_empty};
 ghost use Rattle.strkw_regex_core.specs.machine.Shape.{is_plain, outline_pattern, quantifier_of};
 
 use std::alloc::{AllocError, Global};

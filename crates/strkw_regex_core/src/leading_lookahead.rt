@@ -3,7 +3,7 @@
 
 ghost use Rattle.std.specs.Prelude.{◌≡◌, true, IfOk, List};
 ghost use Rattle.strkw_regex_core.specs.machine.MarkedPattern.{MarkedPattern, cat};
-ghost use Rattle.strkw_regex_core.specs.LeadingLookahead.{first_lead as spec_first_lead, lead_behind, reads_nothing as spec_reads_nothing, is_far as spec_is_far, is_apart_behind};
+ghost use Rattle.strkw_regex_core.specs.machine.LeadingLookahead.{first_lead as spec_first_lead, lead_behind, reads_nothing as spec_reads_nothing, is_far as spec_is_far, is_apart_behind};
 ghost use Rattle.strkw_regex_core.specs.machine.Fronts.{Cuts};
 ghost use Rattle.strkw_regex_core.specs.machine.Shape.{is_plain, outline_pattern};
 
@@ -66,7 +66,8 @@ impl Cut {
         term: CountedRegex,
         fronts: &mut Vec<LeadingLookahead>,
     ) -> Result<Cut, AllocError>
-        ensures { (p : MarkedPattern) → (old : List LeadingLookahead) → Cuts self p old fronts.old.items
+        ensures { (p : MarkedPattern) (old : List LeadingLookahead)
+            → Cuts self p old fronts.old.items
             → IfOk result (λ c. Cuts c (cat p (outline_pattern term)) old fronts.new.items) }
     {
         if self.lead.parts_off(&term) {
@@ -85,7 +86,8 @@ impl Cut {
         fronts: &mut Vec<LeadingLookahead>,
     ) -> Result<Cut, AllocError>
         requires { is_apart_behind self.lead (outline_pattern term) ≡ true }
-        ensures { (p : MarkedPattern) → (old : List LeadingLookahead) → Cuts self p old fronts.old.items
+        ensures { (p : MarkedPattern) (old : List LeadingLookahead)
+            → Cuts self p old fronts.old.items
             → IfOk result (λ c. Cuts c (cat p (outline_pattern term)) old fronts.new.items) }
     {
         match term {

@@ -1,7 +1,7 @@
 //! Which lookaheads the next character tells.
 
 ghost use Rattle.std.specs.Prelude.{◌≡◌};
-ghost use Rattle.strkw_regex_core.specs.OneCharLookahead.{is_glance as spec_is_glance, are_told};
+ghost use Rattle.strkw_regex_core.specs.machine.OneCharLookahead.{is_glance as spec_is_glance, are_told};
 ghost use Rattle.strkw_regex_core.specs.machine.Mirror.{is_backward, mirror};
 ghost use Rattle.strkw_regex_core.specs.machine.Shape.{outline_pattern, quantifier_of, is_never as spec_is_never};
 

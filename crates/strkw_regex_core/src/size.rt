@@ -3,9 +3,10 @@
 ghost use Rattle.std.specs.Prelude.{◌≡◌, ◌+◌, ◌*◌, nat_le, if◌then◌else◌};
 ghost use Rattle.strkw_regex_core.specs.machine.MarkedPattern.{empty, alt, star, plus};
 ghost use Rattle.strkw_regex_core.specs.machine.Times.{quantified_pattern, copies};
-ghost use Rattle.strkw_regex_core.specs.Program.{glance, alternatives};
+ghost use Rattle.strkw_regex_core.specs.machine.Program.{glance, alternatives};
 ghost use Rattle.strkw_regex_core.specs.machine.Shape.{outline_pattern, quantifier_of};
-ghost use Rattle.strkw_regex_core.specs.Size.{steps, steps_of, max_term_steps, set_cost, class_steps as spec_class_steps};
+ghost use Rattle.strkw_regex_core.specs.Size.{max_term_steps, set_cost, class_steps as spec_class_steps};
+ghost use Rattle.strkw_regex_core.specs.machine.ProgramSteps.{steps, steps_of};
 ghost use Rattle.strkw_regex_core.specs.machine.Sizes.{cap_steps, spread_if};
 
 use crate::counted_regex::{CountedRegex, Quantifier};

@@ -8,8 +8,10 @@ use Rattle.strkw_charset.specs.Sets.{control_char}
 use Rattle.strkw_charset.specs.declared.properties.Property.{Property}
 use Rattle.strkw_charset.specs.declared.tree.CharSet.{CharSet}
 use Rattle.strkw_charset.proofs.Booleans.{and_left, and_right}
-use Rattle.strkw_regex_core.specs.Size.{steps, max_term_steps}
+use Rattle.strkw_regex_core.specs.Size.{max_term_steps}
+use Rattle.strkw_regex_core.specs.machine.ProgramSteps.{steps}
 use Rattle.strkw_regex_core.specs.machine.Times.{times_of, Times, quantified_pattern, copies}
+use Rattle.strkw_regex_core.proofs.Terms.{copies_of}
 use Rattle.strkw_regex_core.specs.machine.MarkedPattern.{MarkedPattern, empty, class, cat, alt, lookbehind, lookahead}
 use Rattle.strkw_regex_grammar.specs.Classes.{contents, property_set}
 use Rattle.strkw_regex_grammar.specs.Codes.{null_code, letter_code, byte_code, unit_code, pair_code, point_code, code_value, is_lead, is_trail, is_scalar}
@@ -391,6 +393,7 @@ module _ {A : Type 0} (K : Builder → Option A) (rejects : Rejects K) (gs : Lis
       (λ e. ap (λ m. built_behind K (count_behind s (atom p) (times_of m (Some m))) qs) (held_small n e)
       ∙ count_builds ns (l, none) p (times_of n (Some n)) qs (nat_le (copies (times_of n (Some n)) * steps p) max_term_steps))
       ∙ sym (when_both (nat_le n max_count) _ (counted_so ns l p (exactly ds) qs))
+      ∙ ap (λ c. when (nat_le n max_count && nat_le (c * steps p) max_term_steps) (counted_so ns l p (exactly ds) qs)) (copies_of n (Some n))
   quantifier_builds ns l p (at_least ds) qs =
       let s = state gs ns (l, atom p) in
       let n = number ds in
@@ -400,6 +403,7 @@ module _ {A : Type 0} (K : Builder → Option A) (rejects : Rejects K) (gs : Lis
       (λ e. ap (λ m. built_behind K (count_behind s (atom p) (times_of m None)) qs) (held_small n e)
       ∙ count_builds ns (l, none) p (times_of n None) qs (nat_le (copies (times_of n None) * steps p) max_term_steps))
       ∙ sym (when_both (nat_le n max_count) _ (counted_so ns l p (at_least ds) qs))
+      ∙ ap (λ c. when (nat_le n max_count && nat_le (c * steps p) max_term_steps) (counted_so ns l p (at_least ds) qs)) (copies_of n None)
   quantifier_builds ns l p (from_to ds es) qs =
       let s = state gs ns (l, atom p) in
       let n = number ds in
@@ -414,6 +418,7 @@ module _ {A : Type 0} (K : Builder → Option A) (rejects : Rejects K) (gs : Lis
       ∙ ap (λ i. built_behind K (count_behind s (atom p) (times_of n (Some i))) qs) (held_small m (and_right (nat_le n max_count) _ e))
       ∙ count_builds ns (l, none) p (times_of n (Some m)) qs (nat_le (copies (times_of n (Some m)) * steps p) max_term_steps))
       ∙ sym (when_both both _ (counted_so ns l p (from_to ds es) qs))
+      ∙ ap (λ c. when (both && nat_le (c * steps p) max_term_steps) (counted_so ns l p (from_to ds es) qs)) (copies_of n (Some m))
 
   -- and the `?` that makes it lazy, or none
   pub greed_builds : (ns : List (List ℕ)) (k : End) (p : MarkedPattern) (g : Greed) (qs : List Part)

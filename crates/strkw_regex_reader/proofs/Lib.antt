@@ -10,3 +10,4 @@ pub mod Terms
 pub mod Reasons
 pub mod RefusedLexemes
 pub mod OrderedBounds
+pub mod TreeTerms

@@ -4,7 +4,7 @@ use Rattle.std.proofs.Common.{true≢false, if◌then◌else◌, arith}
 use Rattle.std.specs.Prelude.{option_and_then, option_map, is_some}
 use Rattle.std.proofs.lemmas.Bool.{lt-leb, le-leb}
 use Rattle.std.proofs.lemmas.Bool.Decides.{nat_tests}
-use Rattle.strkw_regex_core.specs.LeadingLookahead.{parts as parts_of_pattern, steps_of_parts}
+use Rattle.strkw_regex_core.specs.machine.LeadingLookahead.{parts as parts_of_pattern, steps_of_parts}
 use Rattle.strkw_regex_core.specs.Size.{max_steps}
 use Rattle.strkw_regex_core.specs.machine.MarkedPattern.{MarkedPattern}
 use Rattle.strkw_regex_grammar.specs.NullEscape.{is_apart}
@@ -28,6 +28,7 @@ use Rattle.strkw_regex_reader.specs.machine.Reading.{built_at, both_at, outcome_
 use Rattle.strkw_regex_reader.proofs.Builds.{built}
 use Rattle.strkw_regex_reader.proofs.TreeBuilds.{tree_builds}
 use Rattle.strkw_regex_reader.proofs.BuilderShapes.{shape_of, parts_leave, closed_shape}
+use Rattle.strkw_regex_reader.proofs.TreeTerms.{tree_steps}
 
 -- a tree that is spelled so, is taken, and has no name twice
 pub record IsReadAs (source : List ℕ) (d : Disjunction) : Type 0 where
@@ -135,7 +136,7 @@ too_large source p l e a f =
       tree.0,
       (tree.1.formed, tree.1.taken),
       tree.1.spelled,
-      subst (λ q. max_steps < steps_of_parts (parts_of_pattern q)) (sym tree.2)
+      subst (λ n. max_steps < n) (ap (λ q. steps_of_parts (parts_of_pattern q)) (sym tree.2) ∙ tree_steps tree.0)
           (large (steps_of_parts (parts_of_pattern p)) (nat_le (steps_of_parts (parts_of_pattern p)) max_steps) refl
           (sym (ap (λ (z : Bool). is_some (if z then keep_small (read_short source) else None)) a
           ∙ ap (λ o. is_some (keep_small o)) (short_enough source l ∙ e)) ∙ f)),

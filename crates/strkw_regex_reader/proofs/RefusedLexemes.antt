@@ -6,7 +6,8 @@ use Rattle.std.specs.Str.{byte}
 use Rattle.strkw_charset.specs.Properties.{property_of}
 use Rattle.strkw_charset.specs.declared.properties.Property.{Property}
 use Rattle.strkw_charset.specs.declared.tree.CharSet.{CharSet}
-use Rattle.strkw_regex_core.specs.Size.{steps, max_term_steps}
+use Rattle.strkw_regex_core.specs.Size.{max_term_steps}
+use Rattle.strkw_regex_core.specs.machine.ProgramSteps.{steps}
 use Rattle.strkw_regex_core.specs.machine.Times.{times_of, Times, copies}
 use Rattle.strkw_regex_core.specs.machine.MarkedPattern.{MarkedPattern}
 use Rattle.strkw_regex_grammar.specs.Codes.{null_code, letter_code, byte_code, unit_code, pair_code, point_code, hex_number, is_lead, is_trail, is_scalar}
@@ -48,6 +49,10 @@ use Rattle.strkw_regex_reader.proofs.Stands.{Stands, group_stands, reference_ref
 use Rattle.strkw_regex_reader.proofs.Terms.{at_term, last_atom}
 use Rattle.strkw_regex_reader.proofs.Reasons.{great_number, small_number, small_at_most, not_at_most, Told, mode_told, deeper_told, next_told, call_told, reference_told}
 use Rattle.strkw_regex_reader.proofs.Reasons.{behind_told, property_told, has_chars}
+use Rattle.strkw_regex_core.specs.Size as size
+use Rattle.strkw_regex_core.proofs.Terms.{copies_of}
+use Rattle.strkw_regex_reader.specs.Patterns.{least, most}
+use Rattle.strkw_regex_reader.proofs.TreeTerms.{atom_steps}
 
 module _ (text : List ℕ) where
   -- what is told where something is refused
@@ -138,7 +143,9 @@ module _ (text : List ℕ) where
             last.3,
             last.4,
             f,
-            subst (λ z. max_term_steps < copies (times q) * steps z) (sym last.5) (not_at_most (copies (times q) * steps p) max_term_steps m),
+            subst (λ z. max_term_steps < z)
+                (ap (λ c. c * steps p) (copies_of (least q) (most q)) ∙ ap (λ z. size.copies (least q) (most q) * z) (ap steps (sym last.5) ∙ atom_steps last.0))
+                (not_at_most (copies (times q) * steps p) max_term_steps m),
             (
               last.1,
               after,

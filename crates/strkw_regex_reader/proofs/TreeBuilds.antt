@@ -2,7 +2,7 @@
 use Rattle.std.proofs.Common.{◌≡◌, ℕ, suc, nat_lt, Bool, true, false, not, ◌&&◌, List, [], ◌∷◌, ◌++◌, Option, Some, length, refl, sym, ap, subst}
 use Rattle.std.proofs.Common.{◌∙◌, append_assoc}
 use Rattle.std.proofs.lemmas.List.{append-nil}
-use Rattle.strkw_regex_core.specs.Size.{steps}
+use Rattle.strkw_regex_core.specs.Size.{forth, size}
 use Rattle.strkw_regex_core.specs.machine.Times.{quantified_pattern}
 use Rattle.strkw_regex_grammar.specs.Names.{name_value, are_distinct}
 use Rattle.strkw_regex_grammar.specs.Regex.{Part, bar, edge, leaf, opens, closes, repeats, Disjunction, only, either, Alternative, nothing, more, Term}
@@ -15,11 +15,12 @@ use Rattle.strkw_regex_reader.specs.Limits.{takes as takes_tree, takes_alternati
 use Rattle.strkw_regex_reader.specs.machine.Times.{times}
 use Rattle.strkw_regex_reader.specs.Patterns.{pattern, atom_pattern}
 use Rattle.strkw_regex_core.specs.machine.Expansion.{expand}
-use Rattle.strkw_regex_reader.specs.machine.Building.{Open, Builder, Enclosing, at_level, at_end, enclose, opened, open_if, whole_level, when, nothing_built}
+use Rattle.strkw_regex_reader.specs.machine.Building.{counted, Open, Builder, Enclosing, at_level, at_end, enclose, opened, open_if, whole_level, when, nothing_built}
 use Rattle.strkw_regex_reader.specs.declared.builder.Enclosing.TheVariants as enclosings
 use Rattle.strkw_regex_reader.proofs.Builds.{End, state, so_far, with_last_atom, with_repeated, term_end, alternative_end, bar_end}
 use Rattle.strkw_regex_reader.proofs.Builds.{disjunction_end, fresh, IsWhole, whole_alternative, whole_disjunction, level_is, names_behind, names_joined}
 use Rattle.strkw_regex_reader.proofs.Builds.{Rejects, parts_behind, built, built_behind, when_both, first, leaf_builds, quantifier_builds, greed_builds}
+use Rattle.strkw_regex_reader.proofs.TreeTerms.{atom_steps}
 
 -- the `?` behind a quantifier has no name
 greed_names : (ns : List (List ℕ)) (g : Greed) → names_behind ns (greed_parts g) ≡ ns
@@ -105,10 +106,11 @@ module _ {A : Type 0} (K : Builder → Option A) (rejects : Rejects K) where
         let shift = append_assoc (atom_parts a) (repeats q ∷ greed_parts g) qs in
         let inner = names_behind ns (atom_parts a) in
         let p = expand (atom_pattern a) in
-        joins (takes_atom_of (length gs) a) (is_within q (steps p)) _ _ _
+        joins (takes_atom_of (length gs) a) (is_within q (size forth (atom_pattern a))) _ _ _
         (ap (built_at gs ns k) shift ∙ atom_builds a gs ns k (repeats q ∷ (greed_parts g ++ qs)) w (subst AreParts shift h))
         (quantifier_builds K rejects gs inner (so_far k) p q (greed_parts g ++ qs)
-        ∙ ap (when (is_within q (steps p)))
+        ∙ ap (λ n. when (is_within q n) (built K (state gs inner (so_far k, counted (quantified_pattern (times q) p))) (greed_parts g ++ qs))) (atom_steps a)
+        ∙ ap (when (is_within q (size forth (atom_pattern a))))
         (greed_builds K rejects gs inner k (quantified_pattern (times q) p) g qs
         ∙ ap (λ z. built_at gs z (with_repeated k (quantified_pattern (times q) p) g) qs)
         (sym (names_joined ns (atom_parts a) (repeats q ∷ greed_parts g) ∙ greed_names inner g))))

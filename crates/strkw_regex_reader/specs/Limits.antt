@@ -1,8 +1,7 @@
 -- Which trees of the grammar are taken: some parts are not, and there are limits.
 use Rattle.std.specs.Prelude.{ℕ, suc, ◌*◌, nat_lt, nat_le, Bool, true, false, ◌&&◌, is_some}
 use Rattle.strkw_charset.specs.Properties.{property_of}
-use Rattle.strkw_regex_core.specs.Size.{steps, max_term_steps}
-use Rattle.strkw_regex_core.specs.machine.Times.{copies}
+use Rattle.strkw_regex_core.specs.Size.{copies, forth, max_term_steps, size}
 use Rattle.strkw_regex_grammar.specs.Classes.{ClassAtom, class_coded, class_property, Ranges}
 use Rattle.strkw_regex_grammar.specs.Classes.{no_ranges, with_one, with_range}
 use Rattle.strkw_regex_grammar.specs.Codes.{Code, code_value, is_scalar}
@@ -14,9 +13,7 @@ use Rattle.strkw_regex_grammar.specs.Regex.{Term, asserted, looks_behind, looks_
 use Rattle.strkw_regex_grammar.specs.Regex.{quantified, Atom, single, group}
 use Rattle.strkw_regex_grammar.specs.Syntax.{Quantifier, zero_or_more, one_or_more, zero_or_one}
 use Rattle.strkw_regex_grammar.specs.Syntax.{exactly, at_least, from_to}
-use Rattle.strkw_regex_reader.specs.machine.Times.{times}
-use Rattle.strkw_regex_reader.specs.Patterns.{atom_pattern}
-use Rattle.strkw_regex_core.specs.machine.Expansion.{expand}
+use Rattle.strkw_regex_reader.specs.Patterns.{atom_pattern, least, most}
 
 -- no count is greater, groups and lookarounds lie in one another at most so deep, and a pattern has
 -- at most so many characters
@@ -64,12 +61,12 @@ are_counts (exactly ds) = nat_le (number ds) max_count
 are_counts (at_least ds) = nat_le (number ds) max_count
 are_counts (from_to ds es) = nat_le (number ds) max_count && nat_le (number es) max_count
 
--- and the copies of a counted term that takes so many steps do not take too many
+-- and the copies of a counted term of this size are not too large
 abbrev pub is_within : Quantifier → ℕ → Bool
 is_within zero_or_more n = true
 is_within one_or_more n = true
 is_within zero_or_one n = true
-is_within q n = are_counts q && nat_le (copies (times q) * n) max_term_steps
+is_within q n = are_counts q && nat_le (copies (least q) (most q) * n) max_term_steps
 
 abbrev mutual
   -- n groups and lookarounds being open around it
@@ -87,7 +84,7 @@ abbrev mutual
   takes_term n (looks_ahead b d) = nat_lt n max_nesting && takes (suc n) d
   takes_term n (once a) = takes_atom_of n a
   takes_term n (quantified a q g) =
-      takes_atom_of n a && is_within q (steps (expand (atom_pattern a)))
+      takes_atom_of n a && is_within q (size forth (atom_pattern a))
 
   pub takes_atom_of : ℕ → Atom → Bool
   takes_atom_of n (single l) = takes_leaf l

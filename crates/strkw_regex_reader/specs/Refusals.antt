@@ -6,12 +6,9 @@ use Rattle.strkw_text.specs.Characters.{is_one_of}
 use Rattle.strkw_regex_grammar.specs.Numbers.{number, are_digits}
 use Rattle.strkw_charset.specs.Properties.{Expression, has_property_chars, property_spelling}
 use Rattle.strkw_charset.specs.Properties.{is_unknown}
-use Rattle.strkw_regex_core.specs.Size.{steps, max_term_steps, max_steps}
-use Rattle.strkw_regex_reader.specs.machine.Times.{times}
-use Rattle.strkw_regex_reader.specs.Patterns.{pattern, atom_pattern}
-use Rattle.strkw_regex_core.specs.machine.Expansion.{expand}
-use Rattle.strkw_regex_core.specs.machine.Times.{copies}
-use Rattle.strkw_regex_core.specs.LeadingLookahead.{parts, steps_of_parts}
+use Rattle.strkw_regex_core.specs.Size.{copies, forth, max_term_steps, max_steps, size}
+use Rattle.strkw_regex_reader.specs.Patterns.{pattern, atom_pattern, least, most}
+use Rattle.strkw_regex_core.specs.WholeSize.{whole_size}
 use Rattle.strkw_regex_grammar.specs.Syntax.{Enclosing, enclosing_spelling, IsEnclosing, Quantifier}
 use Rattle.strkw_regex_grammar.specs.Syntax.{quantifier_spelling}
 use Rattle.strkw_regex_grammar.specs.Regex.{Disjunction, Atom, parts as parts_of, atom_parts, spelling}
@@ -95,12 +92,12 @@ IsReason text CountTooGreat =
 IsReason text TermTooLarge =
     (n : ℕ) × (a : Atom) × (q : Quantifier)
     × AreParts (atom_parts a) × (takes_atom_of n a ≡ true) × IsRepetition q
-    × (max_term_steps < copies (times q) * steps (expand (atom_pattern a)))
+    × (max_term_steps < copies (least q) (most q) * size forth (atom_pattern a))
     × HasTermWithin n (spelling (atom_parts a) ++ quantifier_spelling q) text
 -- the whole is well formed
 IsReason text TooLarge =
     (d : Disjunction) × IsTaken 0 d × (written d ≡ text)
-    × (max_steps < steps_of_parts (parts (expand (pattern d))))
+    × (max_steps < whole_size (pattern d))
 IsReason text NotAPattern = IsRegex text → ⊥
 -- a pattern, and the engine does not take a part of it
 IsReason text NotTaken = IsRegex text

@@ -4,7 +4,7 @@ use Rattle.std.proofs.Common.{drop-cons, length-drop, drop_of_length-le, IsTrue,
 use Rattle.strkw_regex_core.specs.machine.MarkedPattern.{MarkedPattern}
 use Rattle.strkw_regex_core.specs.Meaning.{before}
 use Rattle.strkw_regex_core.specs.machine.MarkedMeaning.{Found}
-use Rattle.strkw_regex_core.specs.OneCharLookahead.{are_told}
+use Rattle.strkw_regex_core.specs.machine.OneCharLookahead.{are_told}
 use Rattle.strkw_regex_core.specs.machine.Positions.{leaves, step, Kept, Later, is_clean}
 use Rattle.strkw_regex_search.specs.machine.Search.{search_from}
 use Rattle.strkw_regex_core.proofs.Behind.{seen_from, kept_first}

@@ -5,7 +5,7 @@ use Rattle.std.specs.Vec.{vec_len}
 use Rattle.std.specs.declared.alloc.Global.{Global}
 use Rattle.strkw_regex_core.specs.machine.MarkedPattern.{MarkedPattern, empty, alt}
 use Rattle.strkw_regex_core.specs.machine.Times.{repetition}
-use Rattle.strkw_regex_core.specs.Program.{Instruction, fork, other, join, is_empty, program, alternatives, concat_copies}
+use Rattle.strkw_regex_core.specs.machine.Program.{Instruction, fork, other, join, is_empty, program, alternatives, concat_copies}
 use Rattle.strkw_regex_search.specs.machine.Machine.{instructions_of, Writes}
 use Rattle.strkw_regex_core.specs.machine.Shape.{outline_pattern, outline_node}
 use Rattle.strkw_regex_search.specs.declared.code.Code.{Code}

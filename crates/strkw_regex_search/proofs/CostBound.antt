@@ -1,10 +1,10 @@
 -- The parts of a pattern are searched within twice their steps.
 use Rattle.std.proofs.Common.{◌≡◌, ℕ, ◌*◌, ◌≤◌, Bool, true, false, List, [], ◌∷◌, refl, arith}
 use Rattle.strkw_regex_core.specs.machine.MarkedPattern.{MarkedPattern}
-use Rattle.strkw_regex_core.specs.LeadingLookahead.{Part, steps_of_parts}
-use Rattle.strkw_regex_core.specs.OneCharLookahead.{are_told}
+use Rattle.strkw_regex_core.specs.machine.LeadingLookahead.{Part, steps_of_parts}
+use Rattle.strkw_regex_core.specs.machine.OneCharLookahead.{are_told}
 use Rattle.strkw_regex_core.specs.machine.Mirror.{target, sought_in}
-use Rattle.strkw_regex_core.specs.Size.{search_steps}
+use Rattle.strkw_regex_core.specs.machine.ProgramSteps.{search_steps}
 use Rattle.strkw_regex_search.specs.machine.Counted.{IsWithin, AreSearchedWithin}
 use Rattle.strkw_regex_core.specs.machine.Positions.{is_unmarked}
 use Rattle.strkw_regex_search.specs.machine.Search.{are_parts_clean}

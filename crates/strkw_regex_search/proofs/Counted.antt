@@ -5,8 +5,8 @@ use Rattle.std.proofs.lemmas.List.{append-nil}
 use Rattle.strkw_regex_core.specs.machine.MarkedPattern.{MarkedPattern}
 use Rattle.strkw_regex_core.specs.machine.Positions.{leaves, step, marks_of}
 use Rattle.strkw_regex_search.specs.machine.Search.{search_from}
-use Rattle.strkw_regex_core.specs.Program.{Instruction, program}
-use Rattle.strkw_regex_core.specs.Size.{instruction_steps, steps_of, steps}
+use Rattle.strkw_regex_core.specs.machine.Program.{Instruction, program}
+use Rattle.strkw_regex_core.specs.machine.ProgramSteps.{instruction_steps, steps_of, steps}
 use Rattle.strkw_regex_search.specs.machine.Walk.{first_or_false, Asked, Walked, Following, start_following, back_over, over, left_by, marks_behind}
 use Rattle.strkw_regex_search.specs.machine.Walk.{asked, followed, walked}
 use Rattle.strkw_regex_search.specs.machine.Counted.{Counted, after, asking, following, walking, counted_search, IsSearchedWithin}

@@ -6,9 +6,9 @@ use Rattle.strkw_regex_core.specs.Tree.{Look}
 use Rattle.strkw_regex_core.specs.machine.MarkedPattern.{MarkedPattern, empty, class, look, cat, alt, star, plus, lookbehind, lookahead}
 use Rattle.strkw_regex_core.specs.machine.Positions.{classes}
 use Rattle.strkw_regex_core.specs.machine.Boundaries.{sees_boundary, has_boundary}
-use Rattle.strkw_regex_core.specs.Program.{Instruction, read, assert, peek, fork, other, join, star_begin, star_end, plus_begin, plus_end, look_begin}
-use Rattle.strkw_regex_core.specs.Program.{look_end, glance, program, alternatives, read_count, asks_word, asks_boundary}
-use Rattle.strkw_regex_core.specs.Size.{instruction_steps, steps_of, steps}
+use Rattle.strkw_regex_core.specs.machine.Program.{Instruction, read, assert, peek, fork, other, join, star_begin, star_end, plus_begin, plus_end, look_begin}
+use Rattle.strkw_regex_core.specs.machine.Program.{look_end, glance, program, alternatives, read_count, asks_word, asks_boundary}
+use Rattle.strkw_regex_core.specs.machine.ProgramSteps.{instruction_steps, steps_of, steps}
 use Rattle.strkw_regex_core.proofs.Options.{by_class, by_option}
 
 -- each instruction takes a step at least

@@ -2,7 +2,7 @@
 use Rattle.std.proofs.Common.{◌≡◌, ◌↔◌, ℕ, Bool, true, false, List, length, None, IsTrue, if◌then◌else◌, refl, arith}
 use Rattle.strkw_regex_core.specs.machine.MarkedPattern.{MarkedPattern}
 use Rattle.strkw_regex_core.specs.machine.MarkedMeaning.{Found}
-use Rattle.strkw_regex_core.specs.OneCharLookahead.{are_told}
+use Rattle.strkw_regex_core.specs.machine.OneCharLookahead.{are_told}
 use Rattle.strkw_regex_core.specs.machine.Positions.{is_unmarked}
 use Rattle.strkw_regex_search.specs.machine.Search.{search_from, found_in}
 use Rattle.strkw_regex_core.specs.machine.Sight.{depth, ends_by, begins_at}

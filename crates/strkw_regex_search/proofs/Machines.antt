@@ -8,7 +8,7 @@ use Rattle.std.proofs.lemmas.List.{get_or_append_left}
 use Rattle.std.proofs.lemmas.Option.{none-some, same_Some}
 use Rattle.strkw_charset.specs.declared.tree.CharSet.{CharSet}
 use Rattle.strkw_regex_core.specs.machine.Positions.{reads, classes}
-use Rattle.strkw_regex_core.specs.Program.{Instruction, read, peek, star_begin, plus_begin, read_count, is_loop, has_loop}
+use Rattle.strkw_regex_core.specs.machine.Program.{Instruction, read, peek, star_begin, plus_begin, read_count, is_loop, has_loop}
 use Rattle.strkw_regex_core.specs.Size.{max_steps}
 use Rattle.strkw_regex_search.specs.machine.Walk.{first_or_false, below, Asked, back_over, asked, marks_behind, Following, Walked, over, left_by}
 use Rattle.strkw_regex_search.specs.machine.Walk.{followed}

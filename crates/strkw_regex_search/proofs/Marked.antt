@@ -8,8 +8,8 @@ use Rattle.std.proofs.lemmas.List.{append_assoc, get_or_past, get_or-replicate, 
 use Rattle.strkw_charset.specs.declared.tree.CharSet.{CharSet}
 use Rattle.strkw_regex_core.specs.machine.MarkedPattern.{MarkedPattern, empty, class, look, cat, alt, star, plus, lookbehind, lookahead}
 use Rattle.strkw_regex_core.specs.machine.Positions.{leaves, step, classes, mark_classes, marks_of, is_clean}
-use Rattle.strkw_regex_core.specs.Program.{Instruction, fork, other, join, star_begin, star_end, plus_begin, plus_end, look_begin, look_end, if_class}
-use Rattle.strkw_regex_core.specs.Program.{if_option, program, alternatives}
+use Rattle.strkw_regex_core.specs.machine.Program.{Instruction, fork, other, join, star_begin, star_end, plus_begin, plus_end, look_begin, look_end, if_class}
+use Rattle.strkw_regex_core.specs.machine.Program.{if_option, program, alternatives}
 use Rattle.strkw_regex_search.specs.machine.Walk.{walked}
 use Rattle.strkw_regex_search.proofs.Programs.{walked_is}
 use Rattle.strkw_charset.proofs.Booleans.{and_left, and_right}

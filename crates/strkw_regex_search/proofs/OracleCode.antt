@@ -4,7 +4,7 @@ use Rattle.std.proofs.Common.{None, IsTrue, not, if◌then◌else◌, refl, sym,
 use Rattle.std.proofs.lemmas.List.{append_assoc, get_or_past}
 use Rattle.strkw_regex_core.specs.machine.MarkedPattern.{MarkedPattern}
 use Rattle.strkw_regex_core.specs.machine.MarkedMeaning.{Found}
-use Rattle.strkw_regex_core.specs.OneCharLookahead.{are_told}
+use Rattle.strkw_regex_core.specs.machine.OneCharLookahead.{are_told}
 use Rattle.strkw_regex_core.specs.machine.Mirror.{mirror_if, along}
 use Rattle.strkw_regex_search.specs.machine.OraclePasses.{OracleQuery, IsAside, AreAsides, IsSmall, AreSmall, SetsAside}
 use Rattle.strkw_regex_search.specs.machine.Bits.{bits_of, rows_of}

@@ -7,7 +7,7 @@ use Rattle.strkw_regex_core.specs.machine.MarkedPattern.{MarkedPattern, empty, c
 use Rattle.strkw_regex_core.specs.machine.Mirror.{mirror, mirror_if}
 use Rattle.strkw_regex_core.specs.machine.Times.{Times, any_times, some_times, once_at_most, exact_times, least_times, range_times, repetition}
 use Rattle.strkw_regex_core.specs.machine.Times.{quantified_pattern}
-use Rattle.strkw_regex_core.specs.Program.{is_empty, concat_copies}
+use Rattle.strkw_regex_core.specs.machine.Program.{is_empty, concat_copies}
 use Rattle.strkw_regex_search.specs.machine.OraclePasses.{OracleQuery, IsToldAs, AreToldAs, IsAside, AreAsides, IsSmall, AreSmall, Puts, PutsAside, PutsLook}
 use Rattle.strkw_regex_search.specs.machine.OraclePasses.{SetsAside, TellsAside}
 use Rattle.strkw_regex_core.specs.machine.EquivalentPatterns.{EquivalentPatterns}

@@ -10,8 +10,9 @@ use Rattle.strkw_charset.specs.declared.tree.CharSet.{CharSet}
 use Rattle.strkw_regex_core.specs.machine.Mirror.{mirror_if}
 use Rattle.strkw_regex_core.specs.machine.Times.{Times, any_times, some_times, once_at_most, exact_times, least_times, range_times, repetition}
 use Rattle.strkw_regex_core.specs.machine.Times.{quantified_pattern}
-use Rattle.strkw_regex_core.specs.Program.{is_class, is_empty, alternatives, concat_copies}
-use Rattle.strkw_regex_core.specs.Size.{steps_of, steps, spread, max_steps}
+use Rattle.strkw_regex_core.specs.machine.Program.{is_class, is_empty, alternatives, concat_copies}
+use Rattle.strkw_regex_core.specs.Size.{max_steps}
+use Rattle.strkw_regex_core.specs.machine.ProgramSteps.{steps_of, steps, spread}
 use Rattle.strkw_regex_search.specs.machine.OraclePasses.{OracleQuery, AreToldAs, AreAsides, IsSmall, Puts, PutsAside, PutsBoth, PutsLook, SetsAside, TellsAside}
 use Rattle.strkw_regex_core.specs.machine.Positions.{is_unmarked}
 use Rattle.strkw_regex_core.specs.machine.EquivalentPatterns.{EquivalentPatterns}

@@ -4,8 +4,8 @@ use Rattle.std.proofs.Common.{◌≡◌, ℕ, suc, ◌+◌, ◌*◌, Bool, true,
 use Rattle.std.proofs.Common.{sym, ap, ◌∙◌, arith}
 use Rattle.strkw_regex_core.specs.machine.MarkedPattern.{MarkedPattern, empty, class, look, cat, alt, star, plus, lookbehind, lookahead}
 use Rattle.strkw_regex_core.specs.machine.Mirror.{along}
-use Rattle.strkw_regex_core.specs.Program.{program}
-use Rattle.strkw_regex_core.specs.Size.{steps_of, steps}
+use Rattle.strkw_regex_core.specs.machine.Program.{program}
+use Rattle.strkw_regex_core.specs.machine.ProgramSteps.{steps_of, steps}
 use Rattle.strkw_regex_search.specs.machine.Counted.{walking, ending, fill_rows, seeking_by, is_any}
 use Rattle.strkw_regex_core.specs.machine.Positions.{leaves, step, classes, mark_classes, marks_of}
 use Rattle.strkw_regex_search.specs.machine.Seeking.{Seeking, row_answer, ends_from, ends_within, row_of, rows_behind, is_sought}

@@ -1,10 +1,10 @@
 -- The passes that look for the parts of a pattern.
 use Rattle.std.proofs.Common.{◌≡◌, ◌+◌, ℕ, List, ◌∷◌, length, ap, arith, Bool, true, false, not, [], ◌++◌, refl, sym, subst, ◌∙◌}
 use Rattle.strkw_regex_core.specs.machine.MarkedPattern.{MarkedPattern}
-use Rattle.strkw_regex_core.specs.OneCharLookahead.{are_told}
-use Rattle.strkw_regex_core.specs.Size.{search_steps}
+use Rattle.strkw_regex_core.specs.machine.OneCharLookahead.{are_told}
+use Rattle.strkw_regex_core.specs.machine.ProgramSteps.{search_steps}
 use Rattle.strkw_regex_core.specs.machine.Mirror.{mirror, mirror_if, is_backward}
-use Rattle.strkw_regex_core.specs.LeadingLookahead.{Part}
+use Rattle.strkw_regex_core.specs.machine.LeadingLookahead.{Part}
 use Rattle.strkw_regex_core.specs.machine.EquivalentPatterns.{EquivalentPatterns}
 use Rattle.strkw_regex_search.specs.machine.Passes.{Pass, IsPass, ArePasses, pass_of, passes_of}
 use Rattle.strkw_regex_search.specs.declared.passes.Pass.{Pass as CodePass}

@@ -5,8 +5,8 @@ use Rattle.std.proofs.lemmas.List.{append_assoc, append-nil}
 use Rattle.strkw_charset.specs.declared.tree.CharSet.{CharSet}
 use Rattle.strkw_regex_core.specs.machine.MarkedPattern.{MarkedPattern, empty, class, look, cat, alt, star, plus, lookbehind, lookahead}
 use Rattle.strkw_regex_core.specs.machine.Positions.{reads, sees, leaves, step, marks_of}
-use Rattle.strkw_regex_core.specs.Program.{Instruction, read, fork, other, join, star_end, plus_end, look_begin, look_end, glance, program}
-use Rattle.strkw_regex_core.specs.Program.{alternatives}
+use Rattle.strkw_regex_core.specs.machine.Program.{Instruction, read, fork, other, join, star_end, plus_end, look_begin, look_end, glance, program}
+use Rattle.strkw_regex_core.specs.machine.Program.{alternatives}
 use Rattle.strkw_regex_search.specs.machine.Walk.{Walked, followed, walked}
 use Rattle.strkw_regex_core.proofs.Options.{by_option}
 use Rattle.strkw_regex_search.proofs.WalkBack.{agains, both_by_class, asked_again}

@@ -8,8 +8,8 @@ use Rattle.strkw_regex_core.specs.machine.MarkedPattern.{MarkedPattern, empty, c
 use Rattle.strkw_regex_core.specs.machine.MarkedMeaning.{Found}
 use Rattle.strkw_regex_core.specs.Mirror.{mirror_look}
 use Rattle.strkw_regex_core.specs.machine.Mirror.{mirror, mirror_if}
-use Rattle.strkw_regex_core.specs.Program.{is_empty, is_class, alternatives}
-use Rattle.strkw_regex_core.specs.Size.{steps_of, steps, spread}
+use Rattle.strkw_regex_core.specs.machine.Program.{is_empty, is_class, alternatives}
+use Rattle.strkw_regex_core.specs.machine.ProgramSteps.{steps_of, steps, spread}
 use Rattle.strkw_regex_search.specs.machine.OraclePasses.{OracleQuery, AreToldAs, IsAside, AreAsides}
 use Rattle.strkw_regex_search.specs.machine.Counted.{IsSoughtWithin}
 use Rattle.strkw_regex_core.specs.machine.Positions.{is_unmarked}

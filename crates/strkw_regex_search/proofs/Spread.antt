@@ -1,8 +1,9 @@
 -- A pattern whose lookaheads are put aside takes no more steps than with a mark beside what each lookaround looks for.
 use Rattle.std.proofs.Common.{◌≡◌, ℕ, ◌+◌, ◌≤◌, Bool, true, false, ◌&&◌, [], refl, sym, ap, ◌∙◌, arith}
 use Rattle.strkw_regex_core.specs.machine.MarkedPattern.{MarkedPattern, empty, class, look, cat, alt, star, plus, lookbehind, lookahead}
-use Rattle.strkw_regex_core.specs.Program.{is_class, is_empty, alternatives}
-use Rattle.strkw_regex_core.specs.Size.{steps_of, steps, spread, max_steps}
+use Rattle.strkw_regex_core.specs.machine.Program.{is_class, is_empty, alternatives}
+use Rattle.strkw_regex_core.specs.Size.{max_steps}
+use Rattle.strkw_regex_core.specs.machine.ProgramSteps.{steps_of, steps, spread}
 use Rattle.strkw_regex_core.specs.machine.Mirror.{mirror_if}
 use Rattle.strkw_regex_core.specs.machine.Positions.{is_unmarked, is_clean}
 use Rattle.strkw_regex_search.specs.machine.OracleRunners.{IsFit}

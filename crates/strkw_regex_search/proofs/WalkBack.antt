@@ -8,8 +8,8 @@ use Rattle.strkw_regex_core.specs.machine.MarkedPattern.{MarkedPattern, empty, c
 use Rattle.strkw_charset.specs.Membership.{differ}
 use Rattle.strkw_regex_core.specs.Meaning.{holds}
 use Rattle.strkw_regex_core.specs.machine.Positions.{sees, leaves, marks_of}
-use Rattle.strkw_regex_core.specs.Program.{Instruction, fork, other, join, star_begin, star_end, plus_begin, plus_end, look_begin, look_end, if_class}
-use Rattle.strkw_regex_core.specs.Program.{glance, program, alternatives}
+use Rattle.strkw_regex_core.specs.machine.Program.{Instruction, fork, other, join, star_begin, star_end, plus_begin, plus_end, look_begin, look_end, if_class}
+use Rattle.strkw_regex_core.specs.machine.Program.{glance, program, alternatives}
 use Rattle.strkw_regex_core.proofs.Steps.{plus_leaves}
 use Rattle.strkw_regex_search.specs.machine.Walk.{Asked, first_or_false, below, back_over, asked}
 use Rattle.strkw_regex_core.proofs.Options.{by_option}

@@ -4,7 +4,7 @@ use Rattle.std.proofs.Common.{Some, slice_get, refl, sym, ap, ◌∙◌, arith}
 use Rattle.std.proofs.Math.Seq.{drop-append_seam}
 use Rattle.std.proofs.lemmas.Bool.{lt-ltb, ltb-true}
 use Rattle.std.proofs.lemmas.List.{append_assoc, append-nil}
-use Rattle.strkw_regex_core.specs.Program.{Instruction, concat_copies}
+use Rattle.strkw_regex_core.specs.machine.Program.{Instruction, concat_copies}
 use Rattle.strkw_regex_search.specs.machine.Instructions.{turn_instruction, read_instruction, peek_instruction, instruction_of, instructions}
 use Rattle.strkw_regex_search.specs.machine.Instructions.{are_within}
 use Rattle.strkw_regex_search.specs.machine.Machine.{instructions_of, IsWithin, Writes}

@@ -1,7 +1,7 @@
 //! Instructions one behind another, as they are written for a pattern.
 
 ghost use Rattle.std.specs.Prelude.{◌≡◌, ◌≤◌, ◌+◌, ◌-◌, ◌++◌, [], ◌∷◌, List, false, length, take, drop, IfOk};
-ghost use Rattle.strkw_regex_core.specs.Program.{read, peek as spec_peek, concat_copies, read_count as spec_read_count, is_loop, has_loop, asks_boundary};
+ghost use Rattle.strkw_regex_core.specs.machine.Program.{read, peek as spec_peek, concat_copies, read_count as spec_read_count, is_loop, has_loop, asks_boundary};
 ghost use Rattle.strkw_regex_search.specs.machine.Instructions.{turn_instruction, instruction_of};
 ghost use Rattle.strkw_regex_search.specs.declared.code.Class.{Class};
 

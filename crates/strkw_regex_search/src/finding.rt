@@ -4,7 +4,7 @@ ghost use Rattle.std.specs.Prelude.{◌≡◌, ◌↔◌, true, IsTrue, None};
 ghost use Rattle.std.specs.Str.{chars};
 ghost use Rattle.strkw_regex_core.specs.machine.MarkedMeaning.{Found};
 ghost use Rattle.strkw_regex_core.specs.machine.Mirror.{along};
-ghost use Rattle.strkw_regex_core.specs.OneCharLookahead.{are_told};
+ghost use Rattle.strkw_regex_core.specs.machine.OneCharLookahead.{are_told};
 ghost use Rattle.strkw_regex_core.specs.machine.Positions.{is_clean};
 ghost use Rattle.strkw_regex_search.specs.machine.Search.{search_from};
 ghost use Rattle.strkw_regex_search.specs.machine.Machine.{pattern_of};

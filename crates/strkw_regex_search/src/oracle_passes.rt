@@ -1,7 +1,7 @@
 //! Lookaheads that are looked for by themselves, at each place of a text, before what asks for them.
 
 ghost use Rattle.std.specs.Prelude.{◌≡◌, ◌++◌, [], false, List, IfOk, if◌then◌else◌};
-ghost use Rattle.strkw_regex_core.specs.Program.{concat_copies};
+ghost use Rattle.strkw_regex_core.specs.machine.Program.{concat_copies};
 ghost use Rattle.strkw_regex_core.specs.machine.MarkedPattern.{cat, look};
 ghost use Rattle.strkw_regex_core.specs.Tree.{end, start};
 ghost use Rattle.strkw_regex_core.specs.machine.Shape.{outline_pattern, quantifier_of};

@@ -1,7 +1,7 @@
 //! The parts of a pattern, as they are looked for: each along the text, or from its end on.
 
 ghost use Rattle.std.specs.Prelude.{◌≡◌, ◌∷◌, ◌++◌, true, List, IfOk};
-ghost use Rattle.strkw_regex_core.specs.LeadingLookahead.{Part, parts};
+ghost use Rattle.strkw_regex_core.specs.machine.LeadingLookahead.{Part, parts};
 ghost use Rattle.strkw_regex_core.specs.machine.Fronts.{part_view, parts_view};
 ghost use Rattle.strkw_regex_search.specs.machine.Passes.{ArePasses, IsPass, pass_of, passes_of, steps_of_passes};
 ghost use Rattle.strkw_regex_core.specs.machine.Shape.{is_plain, outline_pattern};

@@ -3,10 +3,11 @@
 ghost use Rattle.std.specs.Prelude.{◌≡◌, ◌≤◌, true, false, length, take, IfOk};
 ghost use Rattle.strkw_regex_core.specs.machine.Boundaries.{has_boundary as spec_has_boundary};
 ghost use Rattle.strkw_regex_core.specs.machine.Positions.{leaves, step, mark_classes, classes as spec_classes};
-ghost use Rattle.strkw_regex_core.specs.Program.{program, has_loop};
+ghost use Rattle.strkw_regex_core.specs.machine.Program.{program, has_loop};
 ghost use Rattle.strkw_regex_core.specs.machine.Shape.{outline_pattern};
 ghost use Rattle.strkw_regex_search.specs.machine.Instructions.{instructions, are_within};
-ghost use Rattle.strkw_regex_core.specs.Size.{steps, max_steps};
+ghost use Rattle.strkw_regex_core.specs.Size.{max_steps};
+ghost use Rattle.strkw_regex_core.specs.machine.ProgramSteps.{steps};
 ghost use Rattle.strkw_regex_search.specs.machine.Walk.{asked, followed, start_following};
 
 use crate::code::{Class, Code, Instruction};

@@ -1,7 +1,7 @@
 //! What a walk over a program knows between two instructions.
 
 ghost use Rattle.std.specs.Prelude.{◌≡◌, ◌≤◌, ◌+◌, [], true, false, ℕ, Bool, List, Option, ◌&&◌, ◌||◌};
-ghost use Rattle.strkw_regex_core.specs.Program.{read as spec_read, peek as spec_peek};
+ghost use Rattle.strkw_regex_core.specs.machine.Program.{read as spec_read, peek as spec_peek};
 ghost use Rattle.strkw_regex_core.specs.machine.Positions.{reads as spec_reads};
 ghost use Rattle.strkw_regex_search.specs.machine.Instructions.{turn_instruction};
 ghost use Rattle.strkw_regex_search.specs.machine.Machine.{asked_of, following_of, answers_of};

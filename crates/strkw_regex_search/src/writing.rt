@@ -3,7 +3,7 @@
 ghost use Rattle.std.specs.Prelude.{◌≡◌, ◌≤◌, ◌+◌, ◌++◌, length, IfOk};
 ghost use Rattle.strkw_regex_core.specs.machine.MarkedPattern.{empty, alt, star, plus};
 ghost use Rattle.strkw_regex_core.specs.machine.Times.{quantified_pattern, repetition};
-ghost use Rattle.strkw_regex_core.specs.Program.{glance, program, alternatives};
+ghost use Rattle.strkw_regex_core.specs.machine.Program.{glance, program, alternatives};
 ghost use Rattle.strkw_regex_core.specs.machine.Shape.{outline_pattern, quantifier_of};
 ghost use Rattle.strkw_regex_search.specs.machine.Machine.{Writes};
 

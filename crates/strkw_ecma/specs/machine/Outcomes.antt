@@ -5,7 +5,7 @@ use Rattle.strkw_pattern.specs.declared.engine.Outcome.{Outcome}
 use Rattle.strkw_pattern.specs.declared.engine.Outcome.TheVariants.{NoMatch}
 use Rattle.strkw_regex_core.specs.machine.MarkedPattern.{MarkedPattern}
 use Rattle.strkw_regex_reader.specs.machine.Reading.{read_pattern}
-use Rattle.strkw_regex_core.specs.LeadingLookahead.{parts}
+use Rattle.strkw_regex_core.specs.machine.LeadingLookahead.{parts}
 use Rattle.strkw_regex_search.specs.machine.Search.{are_parts_found}
 
 -- what the search of a pattern comes to

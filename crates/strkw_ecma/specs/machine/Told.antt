@@ -4,7 +4,7 @@ use Rattle.std.specs.declared.alloc.Global.{Global}
 use Rattle.strkw_regex_core.specs.machine.MarkedPattern.{MarkedPattern, empty, class, look, cat}
 use Rattle.strkw_regex_core.specs.machine.MarkedPattern.{alt, star, plus}
 use Rattle.strkw_regex_core.specs.machine.MarkedPattern.{lookbehind, lookahead}
-use Rattle.strkw_regex_core.specs.Program.{asks_word}
+use Rattle.strkw_regex_core.specs.machine.Program.{asks_word}
 use Rattle.strkw_charset.specs.Sets.{word_characters}
 use Rattle.strkw_charset.specs.declared.tree.CharSet.{CharSet}
 use Rattle.strkw_charset.specs.machine.CharClasses.{TellsSets}

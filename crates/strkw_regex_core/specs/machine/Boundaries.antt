@@ -3,7 +3,7 @@ use Rattle.std.specs.Prelude.{Bool, false, ◌||◌}
 use Rattle.strkw_regex_core.specs.machine.MarkedPattern.{MarkedPattern, empty, class, look, cat}
 use Rattle.strkw_regex_core.specs.machine.MarkedPattern.{alt, star, plus}
 use Rattle.strkw_regex_core.specs.machine.MarkedPattern.{lookbehind, lookahead}
-use Rattle.strkw_regex_core.specs.Program.{asks_word}
+use Rattle.strkw_regex_core.specs.machine.Program.{asks_word}
 
 -- `\b` or `\B` stands in a glance
 abbrev pub sees_boundary : MarkedPattern → Bool

@@ -2,9 +2,9 @@
 use Rattle.std.specs.Prelude.{◌≡◌, ◌↔◌, ℕ, true, List}
 use Rattle.strkw_regex_core.specs.machine.MarkedPattern.{MarkedPattern}
 use Rattle.strkw_regex_core.specs.machine.MarkedMeaning.{Matches}
-use Rattle.strkw_regex_core.specs.Program.{is_class, is_empty, glance, alternatives}
-use Rattle.strkw_regex_core.specs.OneCharLookahead.{is_glance, are_told}
-use Rattle.strkw_regex_core.specs.Size.{steps_of, steps, spread}
+use Rattle.strkw_regex_core.specs.machine.Program.{is_class, is_empty, glance, alternatives}
+use Rattle.strkw_regex_core.specs.machine.OneCharLookahead.{is_glance, are_told}
+use Rattle.strkw_regex_core.specs.machine.ProgramSteps.{steps_of, steps, spread}
 use Rattle.strkw_regex_core.specs.machine.Positions.{is_unmarked}
 
 -- Two patterns match the same, and a search for the one takes as many steps as one for the other.

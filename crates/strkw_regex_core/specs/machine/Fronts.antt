@@ -1,7 +1,7 @@
 -- What the code tells of the front of a pattern, and what it cuts off.
 use Rattle.std.specs.Prelude.{◌≡◌, List, [], ◌∷◌, ◌++◌}
 use Rattle.strkw_regex_core.specs.machine.MarkedPattern.{MarkedPattern}
-use Rattle.strkw_regex_core.specs.LeadingLookahead.{Part, lead, fronts, rest}
+use Rattle.strkw_regex_core.specs.machine.LeadingLookahead.{Part, lead, fronts, rest}
 use Rattle.strkw_regex_core.specs.machine.Shape.{outline_pattern}
 use Rattle.strkw_regex_core.specs.declared.leading_lookahead.Cut.{Cut}
 use Rattle.strkw_regex_core.specs.declared.leading_lookahead.LeadingLookahead.{LeadingLookahead}

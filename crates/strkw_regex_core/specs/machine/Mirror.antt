@@ -4,8 +4,8 @@ use Rattle.strkw_regex_core.specs.Mirror.{mirror_look}
 use Rattle.strkw_regex_core.specs.machine.MarkedPattern.{MarkedPattern, empty}
 use Rattle.strkw_regex_core.specs.machine.MarkedPattern.{class, look, cat, alt, star, plus}
 use Rattle.strkw_regex_core.specs.machine.MarkedPattern.{lookbehind, lookahead}
-use Rattle.strkw_regex_core.specs.OneCharLookahead.{are_told}
-use Rattle.strkw_regex_core.specs.Program.{is_empty}
+use Rattle.strkw_regex_core.specs.machine.OneCharLookahead.{are_told}
+use Rattle.strkw_regex_core.specs.machine.Program.{is_empty}
 
 -- what stands beside nothing stays on its side of it, so that one term stays one
 abbrev pub mirror : MarkedPattern → MarkedPattern

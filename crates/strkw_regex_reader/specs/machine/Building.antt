@@ -5,7 +5,8 @@ use Rattle.strkw_charset.specs.Sets.{line_ends, set_of, is_negative}
 use Rattle.strkw_charset.specs.declared.properties.Property.{Property}
 use Rattle.strkw_charset.specs.declared.tree.CharSet.{CharSet}
 use Rattle.strkw_charset.specs.declared.tree.CharSet.TheVariants.{Property as PropertySet}
-use Rattle.strkw_regex_core.specs.Size.{steps, max_term_steps}
+use Rattle.strkw_regex_core.specs.Size.{max_term_steps}
+use Rattle.strkw_regex_core.specs.machine.ProgramSteps.{steps}
 use Rattle.strkw_regex_core.specs.machine.Times.{Times, any_times, some_times, once_at_most}
 use Rattle.strkw_regex_core.specs.machine.Times.{times_of}
 use Rattle.strkw_regex_core.specs.machine.Times.{quantified_pattern}

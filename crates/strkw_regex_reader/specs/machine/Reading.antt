@@ -1,7 +1,7 @@
 -- How the text of a pattern is read, character by character.
 use Rattle.std.specs.Prelude.{ℕ, nat_le, length, List, Option, Some, None, option_and_then}
 use Rattle.std.specs.Prelude.{true, if◌then◌else◌}
-use Rattle.strkw_regex_core.specs.LeadingLookahead.{parts, steps_of_parts}
+use Rattle.strkw_regex_core.specs.machine.LeadingLookahead.{parts, steps_of_parts}
 use Rattle.strkw_regex_core.specs.Size.{max_steps}
 use Rattle.strkw_regex_core.specs.machine.MarkedPattern.{MarkedPattern}
 use Rattle.strkw_regex_grammar.specs.NullEscape.{is_apart}

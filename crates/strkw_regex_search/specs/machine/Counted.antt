@@ -3,15 +3,15 @@
 use Rattle.std.specs.Prelude.{◌≡◌, ℕ, suc, ◌+◌, ◌*◌, ◌≤◌, Bool, true, false, ◌||◌, List, [], ◌∷◌}
 use Rattle.std.specs.Prelude.{◌++◌, length, Option, Some, None, if◌then◌else◌}
 use Rattle.strkw_regex_core.specs.machine.MarkedPattern.{MarkedPattern}
-use Rattle.strkw_regex_core.specs.LeadingLookahead.{Part}
-use Rattle.strkw_regex_core.specs.OneCharLookahead.{are_told}
+use Rattle.strkw_regex_core.specs.machine.LeadingLookahead.{Part}
+use Rattle.strkw_regex_core.specs.machine.OneCharLookahead.{are_told}
 use Rattle.strkw_regex_core.specs.machine.Mirror.{along, target, sought_in}
 use Rattle.strkw_regex_core.specs.machine.Positions.{marks_of, mark_classes}
 use Rattle.strkw_regex_search.specs.machine.Search.{search_from, found_in}
 use Rattle.strkw_regex_search.specs.machine.Seeking.{Seeking, row_answer}
 use Rattle.strkw_regex_search.specs.machine.OracleMarks.{told_by}
-use Rattle.strkw_regex_core.specs.Program.{Instruction, program}
-use Rattle.strkw_regex_core.specs.Size.{instruction_steps}
+use Rattle.strkw_regex_core.specs.machine.Program.{Instruction, program}
+use Rattle.strkw_regex_core.specs.machine.ProgramSteps.{instruction_steps}
 use Rattle.strkw_regex_search.specs.machine.Walk.{first_or_false, Asked, Walked, Following}
 use Rattle.strkw_regex_search.specs.machine.Walk.{start_following, back_over, over, left_by}
 use Rattle.strkw_regex_search.specs.machine.Walk.{marks_behind}

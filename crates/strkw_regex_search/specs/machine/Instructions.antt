@@ -2,9 +2,9 @@
 use Rattle.std.specs.Prelude.{ℕ, nat_lt, Bool, true, false, ◌&&◌, List, [], ◌∷◌, slice_get, Option}
 use Rattle.std.specs.Prelude.{Some, None}
 use Rattle.strkw_regex_core.specs.Tree.{start, end, boundary, no_boundary}
-use Rattle.strkw_regex_core.specs.Program.{Instruction, read, assert, peek, fork, other, join}
-use Rattle.strkw_regex_core.specs.Program.{star_begin, star_end, plus_begin, plus_end, look_begin}
-use Rattle.strkw_regex_core.specs.Program.{look_end}
+use Rattle.strkw_regex_core.specs.machine.Program.{Instruction, read, assert, peek, fork, other, join}
+use Rattle.strkw_regex_core.specs.machine.Program.{star_begin, star_end, plus_begin, plus_end, look_begin}
+use Rattle.strkw_regex_core.specs.machine.Program.{look_end}
 use Rattle.strkw_regex_search.specs.declared.code.Class.{Class}
 use Rattle.strkw_regex_search.specs.declared.code.Turn.{Turn}
 use Rattle.strkw_regex_search.specs.declared.code.Turn.TheVariants as turn

@@ -4,7 +4,7 @@ use Rattle.std.specs.Prelude.{get_or, slice_get, Vec, Option, Some, None}
 use Rattle.std.specs.declared.alloc.Global.{Global}
 use Rattle.strkw_regex_core.specs.machine.MarkedPattern.{MarkedPattern}
 use Rattle.strkw_regex_core.specs.machine.Positions.{reads}
-use Rattle.strkw_regex_core.specs.Program.{Instruction}
+use Rattle.strkw_regex_core.specs.machine.Program.{Instruction}
 use Rattle.strkw_regex_search.specs.machine.Walk.{Asked, Following}
 use Rattle.strkw_regex_core.specs.machine.Shape.{outline_pattern}
 use Rattle.strkw_regex_search.specs.machine.Instructions.{instructions, are_within}

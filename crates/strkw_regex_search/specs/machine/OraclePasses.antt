@@ -3,7 +3,8 @@ use Rattle.std.specs.Prelude.{◌≡◌, ℕ, ◌≤◌, Bool, true, false, not,
 use Rattle.std.specs.Prelude.{Option, Some, None}
 use Rattle.strkw_regex_core.specs.machine.MarkedPattern.{MarkedPattern, cat, lookbehind, lookahead}
 use Rattle.strkw_regex_core.specs.machine.Mirror.{mirror, mirror_if}
-use Rattle.strkw_regex_core.specs.Size.{steps, spread, max_steps}
+use Rattle.strkw_regex_core.specs.Size.{max_steps}
+use Rattle.strkw_regex_core.specs.machine.ProgramSteps.{steps, spread}
 use Rattle.strkw_regex_core.specs.machine.Positions.{is_unmarked}
 use Rattle.strkw_regex_core.specs.machine.EquivalentPatterns.{EquivalentPatterns}
 use Rattle.strkw_regex_search.specs.machine.Seeking.{Seeking}

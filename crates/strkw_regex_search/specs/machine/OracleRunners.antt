@@ -1,7 +1,8 @@
 -- What the seekers of the code stand for.
 use Rattle.std.specs.Prelude.{◌≡◌, ◌≤◌, true, List, [], ◌∷◌}
 use Rattle.strkw_regex_core.specs.machine.MarkedPattern.{MarkedPattern}
-use Rattle.strkw_regex_core.specs.Size.{steps, max_steps}
+use Rattle.strkw_regex_core.specs.Size.{max_steps}
+use Rattle.strkw_regex_core.specs.machine.ProgramSteps.{steps}
 use Rattle.strkw_regex_search.specs.machine.Machine.{pattern_of}
 use Rattle.strkw_regex_core.specs.machine.Positions.{is_clean}
 use Rattle.strkw_regex_search.specs.machine.Seeking.{Seeking}

@@ -4,10 +4,11 @@ use Rattle.std.specs.Prelude.{Option, Some, None}
 use Rattle.std.specs.declared.alloc.Global.{Global}
 use Rattle.strkw_regex_core.specs.machine.MarkedPattern.{MarkedPattern}
 use Rattle.strkw_charset.specs.Membership.{differ}
-use Rattle.strkw_regex_core.specs.OneCharLookahead.{are_told}
-use Rattle.strkw_regex_core.specs.Size.{steps, search_steps, max_steps}
+use Rattle.strkw_regex_core.specs.machine.OneCharLookahead.{are_told}
+use Rattle.strkw_regex_core.specs.Size.{max_steps}
+use Rattle.strkw_regex_core.specs.machine.ProgramSteps.{search_steps}
 use Rattle.strkw_regex_core.specs.machine.Mirror.{along, is_backward, target}
-use Rattle.strkw_regex_core.specs.LeadingLookahead.{Part, parts, steps_of_parts}
+use Rattle.strkw_regex_core.specs.machine.LeadingLookahead.{Part, parts, steps_of_parts}
 use Rattle.strkw_regex_core.specs.machine.Positions.{is_unmarked}
 use Rattle.strkw_regex_search.specs.machine.Search.{found_in}
 use Rattle.strkw_regex_core.specs.machine.Shape.{outline_pattern}

@@ -3,9 +3,9 @@ use Rattle.std.specs.Prelude.{ℕ, Bool, true, ◌||◌, ◌&&◌, List, [], ◌
 use Rattle.std.specs.Prelude.{if◌then◌else◌}
 use Rattle.strkw_regex_core.specs.machine.MarkedPattern.{MarkedPattern}
 use Rattle.strkw_charset.specs.Membership.{differ}
-use Rattle.strkw_regex_core.specs.LeadingLookahead.{Part}
+use Rattle.strkw_regex_core.specs.machine.LeadingLookahead.{Part}
 use Rattle.strkw_regex_core.specs.machine.Mirror.{target, sought_in}
-use Rattle.strkw_regex_core.specs.OneCharLookahead.{are_told}
+use Rattle.strkw_regex_core.specs.machine.OneCharLookahead.{are_told}
 use Rattle.strkw_regex_core.specs.machine.Positions.{leaves, step, is_unmarked}
 use Rattle.strkw_regex_core.specs.machine.Sight.{depth, ends_by, begins_at}
 

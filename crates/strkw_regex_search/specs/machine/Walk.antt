@@ -3,9 +3,9 @@
 use Rattle.std.specs.Prelude.{ℕ, Bool, true, false, ◌&&◌, ◌||◌, List, [], ◌∷◌, Option}
 use Rattle.strkw_regex_core.specs.Meaning.{holds}
 use Rattle.strkw_regex_core.specs.machine.Positions.{reads}
-use Rattle.strkw_regex_core.specs.Program.{Instruction, read, assert, peek, fork, other, join}
-use Rattle.strkw_regex_core.specs.Program.{star_begin, star_end, plus_begin, plus_end, look_begin}
-use Rattle.strkw_regex_core.specs.Program.{look_end}
+use Rattle.strkw_regex_core.specs.machine.Program.{Instruction, read, assert, peek, fork, other, join}
+use Rattle.strkw_regex_core.specs.machine.Program.{star_begin, star_end, plus_begin, plus_end, look_begin}
+use Rattle.strkw_regex_core.specs.machine.Program.{look_end}
 use Rattle.strkw_charset.specs.Membership.{differ}
 
 -- the first of a list, and the list behind it

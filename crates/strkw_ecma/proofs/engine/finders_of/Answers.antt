@@ -1,6 +1,6 @@
 use Rattle.std.proofs.Common.{◌&&◌, ◌||◌, not, sym, ap, ◌∙◌, arith}
 use Rattle.std.specs.Vec.Iter.{into_iter_items}
-use Rattle.strkw_regex_core.specs.OneCharLookahead.{are_told}
+use Rattle.strkw_regex_core.specs.machine.OneCharLookahead.{are_told}
 use Rattle.strkw_ecma.specs.machine.Engine.{are_found_by}
 use Rattle.strkw_regex_core.specs.machine.Positions.{is_unmarked}
 use Rattle.strkw_regex_search.specs.machine.Passes.{are_passes_clean, are_passes_faced, are_passes_found, steps_of_passes, passes_of}

@@ -1,6 +1,6 @@
 use Rattle.std.proofs.Common.{◌≡◌, ℕ, suc, ◌+◌, ◌++◌, List, Option, ap, ◌∙◌, arith}
 use Rattle.std.proofs.lemmas.List.{append_assoc}
-use Rattle.strkw_regex_core.specs.Program.{concat_copies}
+use Rattle.strkw_regex_core.specs.machine.Program.{concat_copies}
 use Rattle.strkw_regex_search.proofs.Written.{one_more_copy}
 use Rattle.strkw_regex_search.proofs.oracle_passes.add_copies.Goals as goal
 

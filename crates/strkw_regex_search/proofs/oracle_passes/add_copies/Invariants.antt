@@ -1,5 +1,5 @@
 use Rattle.std.proofs.Common.{◌≡◌, ◌++◌}
-use Rattle.strkw_regex_core.specs.Program.{concat_copies}
+use Rattle.strkw_regex_core.specs.machine.Program.{concat_copies}
 use Rattle.strkw_regex_search.proofs.oracle_passes.add_copies.Given as goal
 
 -- so many copies are behind those that were there

@@ -1,5 +1,5 @@
 use Rattle.std.proofs.Common.{◌≡◌, ◌∷◌, ◌++◌, [], List, false, IfOk, sym, ap, subst, ◌∙◌}
-use Rattle.strkw_regex_core.specs.LeadingLookahead.{Part, rest, fronts, parts}
+use Rattle.strkw_regex_core.specs.machine.LeadingLookahead.{Part, rest, fronts, parts}
 use Rattle.strkw_regex_core.specs.machine.Fronts.{parts_view}
 use Rattle.strkw_regex_search.specs.machine.Passes.{Pass, ArePasses, passes_of, pass_of}
 use Rattle.strkw_regex_core.specs.machine.Shape.{outline_pattern}

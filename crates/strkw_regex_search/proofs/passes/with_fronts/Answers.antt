@@ -1,7 +1,7 @@
 use Rattle.std.proofs.Common.{[], ◌∷◌, ◌++◌, List, length, sym, ap, subst, ◌∙◌, append-nil}
 use Rattle.std.specs.Vec.Iter.{into_iter_items}
 use Rattle.std.proofs.lemmas.List.{append_assoc, nil_from_length}
-use Rattle.strkw_regex_core.specs.LeadingLookahead.{Part}
+use Rattle.strkw_regex_core.specs.machine.LeadingLookahead.{Part}
 use Rattle.strkw_regex_core.specs.machine.Fronts.{part_view, parts_view}
 use Rattle.strkw_regex_search.specs.machine.Passes.{Pass, ArePasses, passes_of, pass_of}
 use Rattle.strkw_regex_search.proofs.PassParts.{one_taken}

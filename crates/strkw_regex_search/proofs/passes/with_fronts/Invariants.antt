@@ -1,6 +1,6 @@
 use Rattle.std.proofs.Common.{◌≡◌, ◌++◌, List, length}
 use Rattle.std.specs.Vec.Iter.{into_iter_items, into_iter_len}
-use Rattle.strkw_regex_core.specs.LeadingLookahead.{Part}
+use Rattle.strkw_regex_core.specs.machine.LeadingLookahead.{Part}
 use Rattle.strkw_regex_core.specs.machine.Fronts.{parts_view}
 use Rattle.strkw_regex_search.specs.machine.Passes.{ArePasses, passes_of}
 use Rattle.strkw_regex_search.proofs.passes.with_fronts.Given as goal

@@ -1,6 +1,6 @@
 use Rattle.std.proofs.Common.{◌≡◌, sym, ap, ◌∙◌, arith}
 use Rattle.std.proofs.lemmas.Result.{IfOk-weaker}
-use Rattle.strkw_regex_core.specs.Program.{is_empty, program, alternatives}
+use Rattle.strkw_regex_core.specs.machine.Program.{is_empty, program, alternatives}
 use Rattle.strkw_regex_core.specs.machine.Shape.{outline_pattern}
 use Rattle.strkw_regex_search.proofs.Written.{both_written}
 use Rattle.strkw_regex_core.proofs.Shapes.{shapes, outlined-Then, outlined-Or, outlined-Behind, outlined-Ahead}

@@ -1,7 +1,7 @@
 use Rattle.std.proofs.Common.{◌≡◌, ◌∙◌, sym, ap, subst}
 use Rattle.std.proofs.lemmas.Result.{IfOk-weaker}
 use Rattle.strkw_regex_core.specs.machine.Times.{quantified_pattern}
-use Rattle.strkw_regex_core.specs.Program.{glance}
+use Rattle.strkw_regex_core.specs.machine.Program.{glance}
 use Rattle.strkw_regex_core.specs.machine.Shape.{outline_pattern, quantifier_of}
 use Rattle.strkw_regex_search.specs.machine.Machine.{Writes}
 use Rattle.strkw_regex_search.proofs.Written.{nothing_written, both_written}

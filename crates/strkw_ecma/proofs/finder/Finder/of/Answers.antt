@@ -1,5 +1,5 @@
 use Rattle.std.proofs.Common.{sym, ap, ◌∙◌}
-use Rattle.strkw_regex_core.specs.OneCharLookahead.{are_told}
+use Rattle.strkw_regex_core.specs.machine.OneCharLookahead.{are_told}
 use Rattle.strkw_regex_core.specs.machine.Positions.{is_clean}
 use Rattle.strkw_ecma.specs.machine.RequiredByte.{needed_char}
 use Rattle.strkw_ecma.proofs.Chains.{both_tabled, chains_are_exact}

@@ -1,5 +1,5 @@
 use Rattle.std.proofs.Common.{◌≡◌, true, false, List, [], ◌∷◌, length, ap, arith}
-use Rattle.strkw_regex_core.specs.OneCharLookahead.{are_told}
+use Rattle.strkw_regex_core.specs.machine.OneCharLookahead.{are_told}
 use Rattle.strkw_regex_search.specs.machine.OraclePasses.{AreAsides}
 use Rattle.strkw_regex_search.specs.machine.OracleRunners.{quests}
 use Rattle.strkw_regex_core.specs.machine.Shape.{outline_pattern}

@@ -1,9 +1,9 @@
 use Rattle.std.proofs.Common.{◌≡◌, ◌∙◌, sym, ap, arith}
 use Rattle.strkw_regex_core.specs.machine.MarkedPattern.{alt, lookahead}
 use Rattle.strkw_regex_core.specs.machine.Times.{quantified_pattern}
-use Rattle.strkw_regex_core.specs.Program.{glance}
+use Rattle.strkw_regex_core.specs.machine.Program.{glance}
 use Rattle.strkw_regex_core.specs.machine.Shape.{outline_pattern, quantifier_of}
-use Rattle.strkw_regex_core.specs.Size.{steps_of}
+use Rattle.strkw_regex_core.specs.machine.ProgramSteps.{steps_of}
 use Rattle.strkw_regex_core.specs.machine.Sizes.{cap_steps}
 use Rattle.strkw_regex_core.proofs.Shapes.{outlined-Or, outlined-Repeated, outlined-Ahead, repeated_glance}
 use Rattle.strkw_regex_core.proofs.Sizes.{sum_capped, more_capped, ahead_steps, glance_alt_steps, glance_option_steps}

@@ -1,5 +1,5 @@
 use Rattle.std.proofs.Common.{◌∙◌, sym, ap}
-use Rattle.strkw_regex_core.specs.Program.{is_empty}
+use Rattle.strkw_regex_core.specs.machine.Program.{is_empty}
 use Rattle.strkw_regex_core.specs.machine.Shape.{outline_pattern, quantifier_of, is_never}
 use Rattle.strkw_regex_core.proofs.Shapes.{outlined-Repeated, glance_copies, other_glance}
 use Rattle.strkw_regex_core.proofs.counted_regex.CountedRegex.+is_glance.Goals as goal

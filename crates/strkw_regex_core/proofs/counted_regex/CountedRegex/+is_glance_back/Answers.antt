@@ -1,7 +1,7 @@
 use Rattle.std.proofs.Common.{◌≡◌, ◌∙◌, ◌&&◌, Bool, false, sym, ap}
-use Rattle.strkw_regex_core.specs.OneCharLookahead.{is_glance}
+use Rattle.strkw_regex_core.specs.machine.OneCharLookahead.{is_glance}
 use Rattle.strkw_regex_core.specs.machine.Mirror.{mirror}
-use Rattle.strkw_regex_core.specs.Program.{is_empty}
+use Rattle.strkw_regex_core.specs.machine.Program.{is_empty}
 use Rattle.strkw_regex_core.specs.machine.Shape.{outline_pattern, quantifier_of, is_never}
 use Rattle.strkw_regex_core.specs.declared.counted_regex.Quantifier.TheVariants.{Exactly}
 use Rattle.strkw_regex_core.proofs.Backwards.{glance_cat_back, glance_times_back}

@@ -1,5 +1,5 @@
 use Rattle.std.proofs.Common.{◌∙◌, sym, ap}
-use Rattle.strkw_regex_core.specs.OneCharLookahead.{are_told}
+use Rattle.strkw_regex_core.specs.machine.OneCharLookahead.{are_told}
 use Rattle.strkw_regex_core.specs.machine.Shape.{outline_pattern, quantifier_of}
 use Rattle.strkw_regex_core.proofs.Shapes.{outlined-Repeated, same_told}
 use Rattle.strkw_regex_core.proofs.counted_regex.CountedRegex.+is_told.Goals as goal

@@ -1,5 +1,5 @@
 use Rattle.std.proofs.Common.{◌≡◌}
-use Rattle.strkw_regex_core.specs.Program.{is_empty}
+use Rattle.strkw_regex_core.specs.machine.Program.{is_empty}
 use Rattle.strkw_regex_core.specs.machine.Shape.{outline_pattern}
 use Rattle.strkw_regex_core.proofs.MirrorEquivalence.{then_made, or_made, repeated_made, behind_made, ahead_made}
 use Rattle.strkw_regex_core.proofs.counted_regex.CountedRegex.+mirror.Goals as goal

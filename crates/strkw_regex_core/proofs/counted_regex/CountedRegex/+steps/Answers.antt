@@ -1,9 +1,9 @@
 use Rattle.std.proofs.Common.{◌≡◌, ◌∙◌, ◌&&◌, Bool, List, false, sym, ap, if◌then◌else◌}
 use Rattle.strkw_regex_core.specs.machine.MarkedPattern.{MarkedPattern, cat, alt, lookbehind, lookahead}
 use Rattle.strkw_regex_core.specs.machine.Times.{quantified_pattern}
-use Rattle.strkw_regex_core.specs.Program.{Instruction, glance, alternatives, is_class, is_empty}
+use Rattle.strkw_regex_core.specs.machine.Program.{Instruction, glance, alternatives, is_class, is_empty}
 use Rattle.strkw_regex_core.specs.machine.Shape.{outline_pattern, quantifier_of}
-use Rattle.strkw_regex_core.specs.Size.{steps, steps_of, spread}
+use Rattle.strkw_regex_core.specs.machine.ProgramSteps.{steps, steps_of, spread}
 use Rattle.strkw_regex_core.specs.machine.Sizes.{cap_steps, spread_if}
 use Rattle.strkw_regex_core.proofs.Shapes.{outlined-Then, outlined-Or, outlined-Repeated, outlined-Behind, outlined-Ahead, same_beside}
 use Rattle.strkw_regex_core.proofs.Sizes.{sum_capped, more_capped, both_steps, alt_steps, beside_steps, ahead_steps}

@@ -1,7 +1,7 @@
 use Rattle.std.proofs.Common.{◌∙◌, sym, ap}
-use Rattle.strkw_regex_core.specs.Program.{is_class}
+use Rattle.strkw_regex_core.specs.machine.Program.{is_class}
 use Rattle.strkw_regex_core.specs.machine.Sizes.{cap_steps, spread_if}
-use Rattle.strkw_regex_core.specs.Size.{steps}
+use Rattle.strkw_regex_core.specs.machine.ProgramSteps.{steps}
 use Rattle.strkw_regex_core.specs.machine.Shape.{outline_pattern}
 use Rattle.strkw_regex_core.proofs.PatternEquivalences.{star_class, plus_class}
 use Rattle.strkw_regex_core.proofs.Sizes.{more_capped, star_steps, plus_steps}

@@ -2,7 +2,7 @@ use Rattle.std.proofs.Common.{◌≡◌, ◌∙◌, ◌-◌, sym}
 use Rattle.strkw_regex_core.specs.machine.MarkedPattern.{empty, alt, star}
 use Rattle.strkw_regex_core.specs.machine.Times.{repetition}
 use Rattle.strkw_regex_core.specs.machine.Sizes.{cap_steps, spread_if}
-use Rattle.strkw_regex_core.specs.Size.{steps}
+use Rattle.strkw_regex_core.specs.machine.ProgramSteps.{steps}
 use Rattle.strkw_regex_core.specs.machine.Shape.{outline_pattern}
 use Rattle.strkw_regex_core.proofs.Sizes.{both_steps, copies_steps}
 use Rattle.strkw_regex_core.proofs.counted_regex.CountedRegex.repeated_steps.Goals as goal

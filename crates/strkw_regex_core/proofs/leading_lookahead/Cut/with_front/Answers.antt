@@ -1,5 +1,5 @@
 use Rattle.std.proofs.Common.{◌∙◌, ap, sym, refl, true≢false}
-use Rattle.strkw_regex_core.specs.LeadingLookahead.{is_apart_behind}
+use Rattle.strkw_regex_core.specs.machine.LeadingLookahead.{is_apart_behind}
 use Rattle.strkw_regex_core.specs.machine.MarkedPattern.{cat, look}
 use Rattle.strkw_regex_core.specs.Tree.{start}
 use Rattle.strkw_regex_core.specs.machine.Shape.{outline_pattern}

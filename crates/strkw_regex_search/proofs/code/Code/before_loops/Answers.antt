@@ -1,5 +1,5 @@
 use Rattle.std.proofs.Common.{◌≡◌, ◌+◌, ◌<◌, suc, false, List, length, get_or, sym, ap, subst, ◌∙◌, arith}
-use Rattle.strkw_regex_core.specs.Program.{is_loop}
+use Rattle.strkw_regex_core.specs.machine.Program.{is_loop}
 use Rattle.strkw_regex_search.specs.machine.Instructions.{instruction_of}
 use Rattle.strkw_regex_search.specs.declared.code.Instruction.{Instruction}
 use Rattle.strkw_regex_search.proofs.Machines.{none_before_next}

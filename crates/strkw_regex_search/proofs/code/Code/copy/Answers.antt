@@ -1,7 +1,7 @@
 use Rattle.std.proofs.Common.{◌≡◌, ℕ, suc, ◌+◌, ◌++◌, List, take, drop, length, ap, ◌∙◌, arith}
 use Rattle.std.proofs.Math.Seq.{take-append_seam}
 use Rattle.std.proofs.lemmas.List.{append_assoc}
-use Rattle.strkw_regex_core.specs.Program.{concat_copies}
+use Rattle.strkw_regex_core.specs.machine.Program.{concat_copies}
 use Rattle.strkw_regex_search.specs.declared.code.Instruction.{Instruction}
 use Rattle.strkw_regex_search.proofs.Written.{copies_written, one_more_copy}
 use Rattle.strkw_regex_search.proofs.code.Code.copy.Goals as goal

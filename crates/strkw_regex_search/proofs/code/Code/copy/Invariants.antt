@@ -1,5 +1,5 @@
 use Rattle.std.proofs.Common.{◌≡◌, ◌++◌, drop, length}
-use Rattle.strkw_regex_core.specs.Program.{concat_copies}
+use Rattle.strkw_regex_core.specs.machine.Program.{concat_copies}
 use Rattle.strkw_regex_search.proofs.code.Code.copy.Given as goal
 
 abbrev pub invariant-loop : goal.invariant-loop

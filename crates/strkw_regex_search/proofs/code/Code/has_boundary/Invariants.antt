@@ -1,5 +1,5 @@
 use Rattle.std.proofs.Common.{◌≡◌, drop}
-use Rattle.strkw_regex_core.specs.Program.{asks_boundary}
+use Rattle.strkw_regex_core.specs.machine.Program.{asks_boundary}
 use Rattle.strkw_regex_search.specs.machine.Instructions.{instructions}
 use Rattle.strkw_regex_search.specs.machine.Machine.{instructions_of}
 use Rattle.strkw_regex_search.proofs.code.Code.has_boundary.Given as goal

@@ -1,7 +1,7 @@
 use Rattle.std.proofs.Common.{◌≡◌, ℕ, List, [], ◌∷◌, ◌++◌, length, ap, subst, ◌∙◌}
 use Rattle.strkw_charset.specs.declared.tree.CharSet.{CharSet}
 use Rattle.strkw_regex_search.specs.declared.code.Instruction.TheVariants.{Peek}
-use Rattle.strkw_regex_core.specs.Program.{peek}
+use Rattle.strkw_regex_core.specs.machine.Program.{peek}
 use Rattle.strkw_regex_search.specs.machine.Machine.{Writes}
 use Rattle.strkw_regex_search.proofs.Written.{peek_written}
 use Rattle.strkw_regex_search.proofs.code.Code.peek.Goals as goal

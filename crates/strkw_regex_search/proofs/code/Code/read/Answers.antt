@@ -1,7 +1,7 @@
 use Rattle.std.proofs.Common.{◌≡◌, ℕ, List, [], ◌∷◌, ◌++◌, length, ap, subst, ◌∙◌}
 use Rattle.strkw_charset.specs.declared.tree.CharSet.{CharSet}
 use Rattle.strkw_regex_search.specs.declared.code.Instruction.TheVariants.{Read}
-use Rattle.strkw_regex_core.specs.Program.{read}
+use Rattle.strkw_regex_core.specs.machine.Program.{read}
 use Rattle.strkw_regex_search.specs.machine.Machine.{Writes}
 use Rattle.strkw_regex_search.proofs.Written.{read_written}
 use Rattle.strkw_regex_search.proofs.code.Code.read.Goals as goal

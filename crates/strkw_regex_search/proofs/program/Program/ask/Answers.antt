@@ -1,7 +1,7 @@
 use Rattle.std.proofs.Common.{◌≡◌, ◌≤◌, ◌<◌, ◌+◌, ◌-◌, ℕ, suc, false, Bool, List, []}
 use Rattle.std.proofs.Common.{◌∷◌, length, drop, take, drop-cons, get_or, slice_get, sym, ap, ◌∙◌, arith}
 use Rattle.strkw_regex_search.specs.declared.code.Instruction.TheVariants.{Read, Turn}
-use Rattle.strkw_regex_core.specs.Program.{Instruction, read_count, has_loop}
+use Rattle.strkw_regex_core.specs.machine.Program.{Instruction, read_count, has_loop}
 use Rattle.strkw_regex_search.specs.machine.Instructions.{turn_instruction, read_instruction, peek_instruction}
 use Rattle.strkw_regex_search.specs.machine.Walk.{Asked, asked}
 use Rattle.strkw_regex_search.specs.machine.Machine.{program_of}

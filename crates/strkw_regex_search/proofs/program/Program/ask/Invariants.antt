@@ -1,5 +1,5 @@
 use Rattle.std.proofs.Common.{◌≡◌, ◌≤◌, ◌+◌, ◌*◌, drop, length}
-use Rattle.strkw_regex_core.specs.Program.{read_count}
+use Rattle.strkw_regex_core.specs.machine.Program.{read_count}
 use Rattle.strkw_regex_search.specs.machine.Walk.{asked}
 use Rattle.strkw_regex_search.specs.machine.Machine.{program_of, asked_of}
 use Rattle.strkw_regex_search.proofs.program.Program.ask.Given as goal

@@ -7,7 +7,7 @@ use Rattle.strkw_charset.specs.declared.tree.CharSet.{CharSet}
 use Rattle.strkw_regex_search.specs.declared.code.Turn.{Turn as CodeTurn}
 use Rattle.strkw_regex_search.specs.declared.program.Program.{Program}
 use Rattle.strkw_regex_search.specs.declared.walk.Walk.{Walk as CodeWalk}
-use Rattle.strkw_regex_core.specs.Program.{Instruction, read, read_count}
+use Rattle.strkw_regex_core.specs.machine.Program.{Instruction, read, read_count}
 use Rattle.strkw_regex_search.specs.machine.Instructions.{turn_instruction, read_instruction}
 use Rattle.strkw_regex_search.specs.machine.Walk.{Walked, Following, over, followed}
 use Rattle.strkw_regex_core.specs.machine.Positions.{classes}

@@ -1,5 +1,5 @@
 use Rattle.std.proofs.Common.{◌≡◌, ◌≤◌, ◌+◌, ◌*◌, drop, take}
-use Rattle.strkw_regex_core.specs.Program.{read_count}
+use Rattle.strkw_regex_core.specs.machine.Program.{read_count}
 use Rattle.strkw_regex_search.specs.machine.Walk.{start_following, followed}
 use Rattle.strkw_regex_search.specs.machine.Machine.{program_of, answers_of, following_of}
 use Rattle.strkw_regex_search.proofs.Programs.{with_marks}

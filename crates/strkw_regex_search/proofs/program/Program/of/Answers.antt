@@ -1,5 +1,5 @@
 use Rattle.std.proofs.Common.{◌≡◌, ◌≤◌, ◌++◌, List, length, take, sym, ap, ◌∙◌, arith}
-use Rattle.strkw_regex_core.specs.Program.{Instruction, program, read_count, has_loop, asks_boundary}
+use Rattle.strkw_regex_core.specs.machine.Program.{Instruction, program, read_count, has_loop, asks_boundary}
 use Rattle.strkw_regex_core.specs.machine.Shape.{outline_pattern}
 use Rattle.strkw_regex_core.specs.Size.{max_steps}
 use Rattle.strkw_regex_search.specs.machine.Machine.{instructions_of}

@@ -1,6 +1,6 @@
 use Rattle.std.proofs.Common.{◌≡◌, ◌≤◌, true, ℕ, Bool, List, length, Option, ap, ◌∙◌}
 use Rattle.strkw_regex_core.specs.machine.Positions.{leaves, step, mark_classes, classes}
-use Rattle.strkw_regex_core.specs.Program.{Instruction, program}
+use Rattle.strkw_regex_core.specs.machine.Program.{Instruction, program}
 use Rattle.strkw_regex_search.specs.machine.Walk.{Walked, asked, start_following, followed, walked}
 use Rattle.strkw_regex_search.specs.machine.Machine.{pattern_of, program_of}
 use Rattle.strkw_regex_search.specs.declared.program.Program.{Program}

@@ -1,14 +1,15 @@
 -- The lookaheads at the front of a pattern, behind `^`. Where the next character does not tell what
 -- one looks for, it is looked for by itself: it is a part of the pattern, beside the rest.
 use Rattle.std.specs.Prelude.{ℕ, ◌+◌, Bool, true, false, not, List, [], ◌∷◌, ◌++◌, if◌then◌else◌, ⊤}
-use Rattle.strkw_regex_core.specs.Tree.{Look, start, end, boundary, no_boundary}
+use Rattle.strkw_regex_core.specs.Tree.{start}
+use Rattle.strkw_regex_core.specs.WholeSize.{look_lead}
 use Rattle.strkw_regex_core.specs.machine.MarkedPattern.{MarkedPattern, empty}
 use Rattle.strkw_regex_core.specs.machine.MarkedPattern.{look, cat, lookbehind, lookahead}
-use Rattle.strkw_regex_core.specs.OneCharLookahead.{is_glance}
+use Rattle.strkw_regex_core.specs.machine.OneCharLookahead.{is_glance}
 use Rattle.strkw_regex_core.specs.machine.MarkedMeaning.{Found}
 use Rattle.strkw_regex_core.specs.Meaning.{Unless}
 use Rattle.strkw_regex_core.specs.machine.Mirror.{target}
-use Rattle.strkw_regex_core.specs.Size.{search_steps}
+use Rattle.strkw_regex_core.specs.machine.ProgramSteps.{search_steps}
 use Rattle.strkw_regex_core.specs.declared.leading_lookahead.Lead.{Lead}
 use Rattle.strkw_regex_core.specs.declared.leading_lookahead.Lead.TheVariants.{Nothing, Anchored, Past}
 
@@ -19,12 +20,6 @@ reads_nothing (look l) = true
 reads_nothing (lookbehind n p) = true
 reads_nothing (lookahead n p) = true
 reads_nothing p = false
-
-abbrev pub look_lead : Look → Lead
-look_lead start = Anchored
-look_lead end = Past
-look_lead boundary = Past
-look_lead no_boundary = Past
 
 -- of a first term
 abbrev pub first_lead : MarkedPattern → Lead

@@ -3,7 +3,7 @@ use Rattle.std.specs.Prelude.{Bool, true, false, ◌&&◌}
 use Rattle.strkw_regex_core.specs.machine.MarkedPattern.{MarkedPattern, empty, class, look, cat}
 use Rattle.strkw_regex_core.specs.machine.MarkedPattern.{alt, star, plus}
 use Rattle.strkw_regex_core.specs.machine.MarkedPattern.{lookbehind, lookahead}
-use Rattle.strkw_regex_core.specs.Program.{is_empty}
+use Rattle.strkw_regex_core.specs.machine.Program.{is_empty}
 
 -- nothing, one character of a class, or an assertion; or alternatives of these
 abbrev pub is_glance : MarkedPattern → Bool
