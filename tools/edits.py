@@ -42,6 +42,7 @@ HEADING, FILE, OLD, NEW = "# ", "file: ", "old: ", "new:"
 FUNCTION = re.compile(r"\s*(?:pub(?:\([a-z]+\))? )?(?:final )?(?:const )?(?:unsafe )?(?:extern \"C\" )?fn (\w+)")
 CYCLE = re.compile(r"#\[cycle\((\w+)\)\]")
 OWNER = re.compile(r"(?:impl(?:<.*?>)? (?:.* for )?&?(?:\w+::)*|(?:pub(?:\(\w+\))? )?trait )(\w+)")
+LONG_OWNER = re.compile(r"(\w+)<$")  # of an `impl` whose parameters have lines of their own
 COMMENT = re.compile(r"\s*(//|--|$)")
 # In a file of lemmas: what is declared, where its meaning is open to all, and a line that says how it is proved.
 DECLARED = re.compile(r"(abbrev |record |data |mutual|module |simp )?\s*(?:pub )?(\S+) :")
@@ -96,8 +97,8 @@ def functions_of(folder, file):
     found = []
     for (first, at), (end, _) in zip(heads, [*heads[1:], (len(lines), 0)]):
         cycle = CYCLE.search("\n".join(lines[first:at]))
-        block = next((line for line in reversed(lines[:at]) if line[:1].strip() not in ("", "/", "#")), "")
-        of_type = OWNER.match(block) if lines[at].startswith(" ") else None
+        block = next((line for line in reversed(lines[:at]) if line[:1].strip() not in ("", "/", "#", ">")), "")
+        of_type = (LONG_OWNER.search(block) or OWNER.match(block)) if lines[at].startswith(" ") else None
         closed = next((line + 1 for line in range(at, end) if lines[line].startswith("}")), end)
         found.append(Function(file, FUNCTION.match(lines[at])[1], of_type[1] if of_type else "",
                               cycle[1] if cycle else "", first, closed))
@@ -117,8 +118,8 @@ def functions_changed(folder, body):
 
 
 def place(function):
-    """What two wrong bodies of one check may not share."""
-    return function.file, function.cycle or function.name
+    """What two wrong bodies of one check may not share. The functions of a cycle may be in several files."""
+    return ("", function.cycle) if function.cycle else (function.file, function.name)
 
 
 def in_checks(folder, bodies):

@@ -1,5 +1,5 @@
 -- Errors that are appended.
-use Rattle.std.proofs.Common.{◌≡◌, List, [], ◌∷◌, ◌++◌, map, refl, sym, ap, ◌∙◌, subst, append_assoc, append-nil}
+use Rattle.std.proofs.Common.{List, [], ◌++◌, sym, ap, ◌∙◌, subst, append_assoc, append-nil}
 use Rattle.std.proofs.lemmas.List.{map-append}
 use Rattle.neldrafi_schema.specs.declared.error.ValidationError.{ValidationError}
 use Rattle.neldrafi_schema.specs.Errors.{Error}

@@ -1,5 +1,5 @@
 -- What is in a value is less deep, and is checked with fewer steps.
-use Rattle.std.proofs.Common.{◌≡◌, ℕ, zero, suc, ◌+◌, ◌*◌, ◌<◌, ◌≤◌, List, length, max, refl, sym, arith, Some, None, Option, Less, Equal, Greater}
+use Rattle.std.proofs.Common.{◌≡◌, ℕ, zero, suc, ◌+◌, ◌*◌, ◌<◌, ◌≤◌, List, max, arith, Some, None, Option, Less, Equal, Greater}
 use Rattle.std.proofs.Math.Nat.{suc-mul, mul_comm, mul-le-mul_right}
 use Rattle.std.specs.Prelude.{option_and_then}
 use Rattle.std.specs.Cmp.Lexicographic.{slice_cmp}
@@ -10,7 +10,6 @@ use Rattle.serde_json.specs.Find.{at, get, get_item, get_member}
 use Rattle.neldrafi_schema.specs.Paths.{Segment, key, place, document, child}
 use Rattle.neldrafi_schema.specs.Rules.{child_at}
 use Rattle.neldrafi_schema.specs.Schemas.{Branch}
-use Rattle.neldrafi_schema.specs.machine.Ready.{steps_for}
 
 found_below : (o : Ordering) (d v : Data) (ms : Members) (name : List ℕ) → ((get_member name ms ≡ Some v) → depth v ≤ members_depth ms)
     → match_ordering o (get_member name ms) (Some d) (get_member name ms) ≡ Some v → depth v ≤ max (depth d) (members_depth ms)

@@ -1,6 +1,5 @@
 -- An instance has at most one list of errors.
 use Rattle.std.proofs.Common.{◌≡◌, ◌↔◌, ℕ, zero, suc, List, [], ◌∷◌, ◌++◌, refl, sym, ap, ◌∙◌, subst, Bool, true, false, Some, None, Option, map, IsTrue}
-use Rattle.std.proofs.lemmas.Bool.{false≢true}
 use Rattle.std.specs.Prelude.{MatchOption, slice_get}
 use Rattle.std.specs.List.{flat_map}
 use Rattle.serde_json.specs.Data.{Data}
@@ -9,9 +8,9 @@ use Rattle.strkw_report.specs.declared.error.Site.{Site}
 use Rattle.strkw_keywords.specs.Laws.{ReportsAreDetermined}
 use Rattle.strkw_keywords.specs.Meanings.{Lists}
 use Rattle.neldrafi_schema.specs.Errors.{Error, of_text}
-use Rattle.neldrafi_schema.specs.Schemas.{Keyword, rule, string_keyword, malformed, Rule, Branch, Body, always, never, keywords, neither, Schema}
+use Rattle.neldrafi_schema.specs.Schemas.{Keyword, rule, string_keyword, malformed, Body, always, never, keywords, neither, Schema}
 use Rattle.neldrafi_schema.specs.Rules.{Child, Target, applied, kinds, left_kinds, on_each, part_of, tested}
-use Rattle.neldrafi_schema.specs.Meaning.{AreVerdicts, Below, EachReports, KeywordReports, KeywordsReport, RuleReports, SchemaReports, Reports, error_of, site_of}
+use Rattle.neldrafi_schema.specs.Meaning.{AreVerdicts, Below, EachReports, KeywordReports, KeywordsReport, SchemaReports, Reports, error_of, site_of}
 use Rattle.neldrafi_schema.proofs.Evaluation.{unevaluated_same}
 
 -- two lists in two parts

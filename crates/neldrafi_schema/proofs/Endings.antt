@@ -3,7 +3,7 @@ use Rattle.std.proofs.Common.{add-one, replicate, suc-add, zero-add, ◌≡◌, 
 use Rattle.std.proofs.lemmas.Bool.{false≢true}
 use Rattle.std.proofs.lemmas.List.{length-map}
 use Rattle.std.proofs.lemmas.Option.{slice_get-map, slice_get_within}
-use Rattle.std.specs.Prelude.{option_map, unwrap_or, ◌&&◌}
+use Rattle.std.specs.Prelude.{option_map, unwrap_or}
 use Rattle.std.specs.Cmp.Lexicographic.{pointwise}
 use Rattle.std.specs.List.{list_all, slice_get}
 use mathlib.Core.Bool.{beq}

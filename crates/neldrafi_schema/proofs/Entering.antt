@@ -6,9 +6,9 @@ use Rattle.std.specs.List.{AllByRecursion, flat_map, list_all}
 use Rattle.serde_json.specs.Data.{Data}
 use Rattle.strkw_keywords.specs.Errors.{Assertion}
 use Rattle.neldrafi_schema.specs.declared.targets.Target.{Target as FoundTarget}
-use Rattle.neldrafi_schema.specs.Paths.{Path, Segment, child, key, place}
+use Rattle.neldrafi_schema.specs.Paths.{Path, Segment, child}
 use Rattle.neldrafi_schema.specs.Refusals.{ends, in_place, is_in_place, schemas_in}
-use Rattle.neldrafi_schema.specs.Rules.{Target, applied, child_at, counts_nothing, is_matched, members_in, on_child, on_items, on_matched, on_members, option_list, other_items_in, other_members_in, path_of, placed_items, spans, target, tested, valid_of}
+use Rattle.neldrafi_schema.specs.Rules.{Target, applied, counts_nothing, on_child, on_items, on_matched, on_members, option_list, other_items_in, other_members_in, path_of, placed_items, spans, tested, valid_of}
 use Rattle.neldrafi_schema.specs.Schemas.{Rule, types, among, equal_to, limited, multiple_of, sized, distinct, required, reference, all_of, dependent, properties, matching, other_members, no_other_members, member_names, placed, other_items, no_other_items, negation, any_of, one_of, contains, where_valid, where_not_valid, condition, unevaluated, held, Branch, Keyword, Schema, rule}
 use Rattle.neldrafi_schema.specs.machine.Compiled.{target_of, targets_of}
 use Rattle.neldrafi_schema.specs.machine.Left.{AreSpans, EndsHere}

@@ -1,13 +1,12 @@
 -- What the keywords of a schema evaluate of an instance, and which children they leave.
-use Rattle.std.proofs.Common.{◌≡◌, ◌↔◌, ◌⊎◌, inl, inr, ℕ, zero, suc, ◌<◌, ◌≤◌, List, [], ◌∷◌, ◌++◌, map, refl, sym, ap, ◌∙◌, Bool, true, false, Some, None, Option, IsTrue}
-use Rattle.std.proofs.lemmas.Bool.{false≢true}
+use Rattle.std.proofs.Common.{◌≡◌, ◌↔◌, inl, inr, ℕ, zero, suc, ◌<◌, List, [], ◌∷◌, map, refl, sym, ap, ◌∙◌, Bool, Some, None, Option}
 use Rattle.std.specs.Prelude.{MatchOption, slice_get, length}
 use Rattle.std.specs.List.{AllByRecursion, flat_map}
 use Rattle.serde_json.specs.Data.{Data, depth}
 use Rattle.neldrafi_schema.specs.declared.node.Part.{Part}
 use Rattle.neldrafi_schema.specs.declared.node.Part.TheVariants as part
 use Rattle.neldrafi_schema.specs.Paths.{Segment, key, place}
-use Rattle.neldrafi_schema.specs.Rules.{Child, Target, applied, children, members_in, on_each, placed_items, spans, tested}
+use Rattle.neldrafi_schema.specs.Rules.{Child, Target, children, members_in, on_each, placed_items, spans, tested}
 use Rattle.neldrafi_schema.specs.Schemas.{Branch, Keyword, rule, string_keyword, malformed, Body, always, never, keywords, neither, Schema}
 use Rattle.neldrafi_schema.specs.Meaning.{AreLeft, AreUnevaluated, AreVerdicts, Below, BesideEvaluates, BodyEvaluates, Evaluates, Evaluating, KeywordEvaluates, OneOf, TargetEvaluates, root_site}
 use Rattle.neldrafi_schema.proofs.Fitting.{IsBodyFine, IsKeywordFine, IsLess}

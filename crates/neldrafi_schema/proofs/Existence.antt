@@ -1,5 +1,5 @@
 -- It cannot be that an instance has no list of errors.
-use Rattle.std.proofs.Common.{◌≡◌, ◌↔◌, ℕ, zero, suc, ◌+◌, ◌≤◌, List, [], ◌∷◌, ◌++◌, length, refl, Bool, true, false, Some, None, Option, map, IsTrue, arith}
+use Rattle.std.proofs.Common.{◌≡◌, ◌↔◌, ℕ, zero, suc, ◌≤◌, List, [], ◌∷◌, ◌++◌, length, refl, Bool, true, false, Some, None, Option, map, IsTrue, arith}
 use Rattle.std.proofs.lemmas.Bool.{false≢true}
 use Rattle.std.specs.Prelude.{MatchOption, slice_get}
 use Rattle.std.specs.List.{AllByRecursion, flat_map}

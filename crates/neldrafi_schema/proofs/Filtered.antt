@@ -1,5 +1,5 @@
 -- A loop over a list that keeps some elements: what is there, and what the rest gives.
-use Rattle.std.proofs.Common.{◌≡◌, ◌∙◌, List, [], ◌∷◌, ◌++◌, Bool, true, false, cond, map, refl, sym, ap, append_assoc, append-nil}
+use Rattle.std.proofs.Common.{◌≡◌, ◌∙◌, List, [], ◌∷◌, ◌++◌, Bool, true, false, cond, map, sym, ap, append_assoc, append-nil}
 use Rattle.std.specs.List.{filter}
 
 module _ {A B : Type 0} (f : A → B) (p : A → Bool) (x : A) (rest : List A) where

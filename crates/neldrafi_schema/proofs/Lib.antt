@@ -32,9 +32,13 @@ pub mod Numbering
 pub mod CompiledPatterns
 pub mod Reported
 pub mod Filtered
+pub mod Searched
 pub mod Entering
 pub mod Taken
 pub mod Visited
+pub mod Plain
+pub mod Each
+pub mod Where
 pub mod Visiting
 pub mod Wholes
 pub mod Gathering

@@ -1,5 +1,5 @@
 -- What has no meaning leads unresolved_reference: ways end with it as they do without it.
-use Rattle.std.proofs.Common.{◌≡◌, ℕ, zero, suc, List, [], ◌∷◌, ◌++◌, ◌+◌, ◌≤◌, length, map, arith, refl, ap, ◌∙◌, Bool, true, false, Some, None, Option}
+use Rattle.std.proofs.Common.{◌≡◌, ℕ, zero, suc, List, [], ◌∷◌, ◌++◌, ◌≤◌, length, map, arith, refl, ap, ◌∙◌, Bool, true, false, Some, None, Option}
 use Rattle.std.proofs.Math.Path.{ap₂}
 use Rattle.std.proofs.lemmas.Option.{slice_get-map}
 use Rattle.std.specs.Prelude.{◌&&◌, option_map, slice_get, if◌then◌else◌}

@@ -1,5 +1,5 @@
 -- More steps change nothing.
-use Rattle.std.proofs.Common.{◌≡◌, ◌↔◌, ℕ, zero, suc, ◌≤◌, List, [], ◌∷◌, ◌++◌, length, Bool, true, false, Some, None, Option, refl, arith}
+use Rattle.std.proofs.Common.{◌≡◌, ◌↔◌, ℕ, zero, suc, ◌≤◌, List, [], ◌∷◌, ◌++◌, length, Bool, true, Some, None, Option, refl, arith}
 use Rattle.std.proofs.lemmas.Bool.{false≢true}
 use Rattle.std.specs.Prelude.{MatchOption, slice_get}
 use Rattle.std.specs.List.{AllByRecursion, flat_map}
@@ -16,7 +16,6 @@ use Rattle.neldrafi_schema.specs.machine.Ready.{steps_for}
 use Rattle.neldrafi_schema.specs.machine.Sound.{AreSound, IsSoundBody}
 use Rattle.neldrafi_schema.specs.Refusals.{ends, schema_ends}
 use Rattle.neldrafi_schema.proofs.Fitting.{Fits, IsBodyFine, IsKeywordFine, body_fits, body_fits_too}
-use Rattle.neldrafi_schema.proofs.Taking.{keyword_left, left_filtered, left_more, left_none}
 use Rattle.neldrafi_schema.proofs.Evaluation.{besides_too, unevaluated_fine, unevaluated_too}
 use Rattle.neldrafi_schema.proofs.Within.{Hold, both_hold}
 

@@ -1,10 +1,10 @@
 -- What the walk takes from the children that are left, keyword by keyword and target by target.
-use Rattle.std.proofs.Common.{◌≡◌, ◌↔◌, ◌⊎◌, inl, inr, ℕ, zero, suc, ◌+◌, ◌-◌, ◌<◌, ◌≤◌, List, [], ◌∷◌, ◌++◌, length, get_or, map, refl, sym, ap, ◌∙◌, subst, arith, append-nil, Bool, true, false, cond, Some, None, Option, Vec, Global}
+use Rattle.std.proofs.Common.{◌≡◌, inl, inr, ℕ, zero, suc, ◌-◌, ◌≤◌, List, [], ◌∷◌, ◌++◌, length, get_or, refl, sym, ap, ◌∙◌, subst, arith, append-nil, Bool, true, false, cond, Some, None, Option, Vec, Global}
 use Rattle.std.proofs.lemmas.Bool.{false≢true}
 use Rattle.std.proofs.lemmas.Bool.Decides.{Decides-eqb}
 use Rattle.std.proofs.lemmas.Slice.Eq.{bytes_eq-Decides}
 use Rattle.std.specs.Bool.{Decides}
-use Rattle.std.specs.Prelude.{if◌then◌else◌, not}
+use Rattle.std.specs.Prelude.{not}
 use Rattle.std.specs.List.{filter, flat_map}
 use Rattle.serde_json.specs.Data.{Data}
 use Rattle.serde_json.specs.View.{view}
@@ -24,9 +24,9 @@ use Rattle.neldrafi_schema.specs.Errors.{Kind}
 use Rattle.neldrafi_schema.specs.Meaning.{AreLeft, AreUnevaluated, AreVerdicts, Below, BesideEvaluates, BodyEvaluates, Evaluates, Evaluating, KeywordEvaluates, OneOf, TargetEvaluates, root_site}
 use Rattle.neldrafi_schema.specs.Paths.{Segment, key, place, document}
 use Rattle.neldrafi_schema.specs.Refusals.{ends}
-use Rattle.neldrafi_schema.specs.Rules.{Child, Target, applied, counts_nothing, is_of_part, kinds, left_kinds, on_each, part_of, spans, tested, valid_of}
+use Rattle.neldrafi_schema.specs.Rules.{Child, Target, applied, counts_nothing, is_of_part, kinds, left_kinds, on_each, part_of, tested, valid_of}
 use Rattle.neldrafi_schema.specs.Schemas.{Branch, Keyword, Rule, Schema, keywords, rule, unevaluated}
-use Rattle.neldrafi_schema.specs.machine.Compiled.{body_of, children_of, keyword_of, keywords_of, rule_of, schemas_of, step_of}
+use Rattle.neldrafi_schema.specs.machine.Compiled.{body_of, children_of, keyword_of, rule_of, schemas_of, step_of}
 use Rattle.neldrafi_schema.specs.machine.Left.{AreFindings, AreSpans, Takes, same_segment}
 use Rattle.neldrafi_schema.proofs.Endings.{ends_inside, ends_some, schema_there}
 use Rattle.neldrafi_schema.proofs.Evaluation.{left_too}

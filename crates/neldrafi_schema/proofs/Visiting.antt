@@ -1,34 +1,30 @@
 -- The walk at the nodes of a compiled schema.
-use Rattle.std.proofs.Common.{◌≡◌, ◌↔◌, ◌∙◌, ℕ, zero, suc, ◌+◌, ◌-◌, ◌<◌, ◌≤◌, List, [], ◌∷◌, ◌++◌, length, get_or, drop, map, refl, sym, ap, subst, arith, append-nil, append_assoc, Bool, true, false, IsTrue, Vec, Global, string_bytes}
+use Rattle.std.proofs.Common.{◌≡◌, ◌↔◌, ◌∙◌, ℕ, zero, suc, ◌+◌, ◌-◌, ◌<◌, ◌≤◌, List, [], ◌∷◌, ◌++◌, length, get_or, drop, refl, sym, ap, subst, arith, append_assoc, Bool, true, false, IsTrue, Vec, Global, string_bytes}
 use Rattle.std.proofs.lemmas.Bool.{false≢true}
-use Rattle.std.proofs.lemmas.List.{length-map}
 use Rattle.std.specs.Prelude.{if◌then◌else◌}
 use Rattle.std.specs.List.{AllByRecursion, list_all}
-use Rattle.serde_json.specs.Data.{Data, depth}
+use Rattle.serde_json.specs.Data.{Data}
 use Rattle.strkw_report.specs.declared.error.Site.{Site}
 use Rattle.strkw_pattern.specs.declared.engine.Outcome.{Outcome}
 use Rattle.strkw_keywords.specs.Meanings.{Lists}
 use Rattle.strkw_keywords.specs.declared.validator.Validator.{Validator}
-use Rattle.neldrafi_schema.specs.declared.node.Body.{Body}
 use Rattle.neldrafi_schema.specs.declared.node.Body.TheVariants as body
 use Rattle.neldrafi_schema.specs.declared.node.Branch.{Branch as CompiledBranch}
 use Rattle.neldrafi_schema.specs.declared.node.Keyword.{Keyword as CompiledKeyword}
-use Rattle.neldrafi_schema.specs.declared.node.Keyword.TheVariants as keyword
 use Rattle.neldrafi_schema.specs.declared.node.Node.{Node}
 use Rattle.neldrafi_schema.specs.declared.node.Ruled.{Ruled}
 use Rattle.neldrafi_schema.specs.declared.targets.Target.{Target as FoundTarget}
 use Rattle.neldrafi_schema.specs.Errors.{Error, Kind}
 use Rattle.neldrafi_schema.specs.Schemas.{Keyword, keywords}
 use Rattle.neldrafi_schema.specs.Rules.{tested}
-use Rattle.neldrafi_schema.specs.Meaning.{AreVerdicts, Below, EachReports, HasErrors, KeywordReports, KeywordsReport, Reports, SchemaReports, enough, root_site, site_of}
+use Rattle.neldrafi_schema.specs.Meaning.{AreVerdicts, Below, EachReports, KeywordReports, KeywordsReport, Reports, SchemaReports, site_of}
 use Rattle.neldrafi_schema.specs.Refusals.{ends, in_place, is_in_place, keywords_end}
-use Rattle.neldrafi_schema.specs.machine.Compiled.{body_of, branch_of, branches_of, keyword_of, keywords_of, rule_of, ruled_of, schema_of, schemas_of, seen_data, target_of, targets_of}
+use Rattle.neldrafi_schema.specs.machine.Compiled.{body_of, branches_of, keyword_of, keywords_of, rule_of, ruled_of, schemas_of, seen_data, target_of, targets_of}
 use Rattle.neldrafi_schema.specs.machine.Left.{AreFindings}
 use Rattle.neldrafi_schema.specs.machine.Ready.{IsBodyReady, IsKeywordReady, IsReady, IsRuledReady, steps_for}
-use Rattle.neldrafi_schema.proofs.Depth.{enough_steps}
 use Rattle.neldrafi_schema.proofs.Endings.{all_below, ends_inside, ends_some, keyword_below, reports_there}
-use Rattle.neldrafi_schema.proofs.Lists.{all_at, drop_one, drop_past}
-use Rattle.neldrafi_schema.proofs.Visited.{IsNext, found_next, holds, keyword_first, keyword_passed, refutes, target_first, target_passed, tested_next, verdict_first}
+use Rattle.neldrafi_schema.proofs.Lists.{all_at, drop_one}
+use Rattle.neldrafi_schema.proofs.Visited.{found_next, holds, keyword_first, keyword_passed, refutes, target_first, target_passed, tested_next, verdict_first}
 use Rattle.neldrafi_schema.proofs.Within.{Hold}
 
 -- no more steps are left than there are schemas

@@ -1,12 +1,11 @@
 -- What a keyword leads to: the instance itself, where its schemas are of that, or values that are less deep.
 use Rattle.std.proofs.Common.{◌≡◌, ◌<◌, ◌≤◌, ℕ, zero, suc, List, [], ◌∷◌, ◌++◌, map, drop, take, Bool, true, false, cond, Some, None, Option, refl, arith}
-use Rattle.std.specs.Prelude.{option_and_then, if◌then◌else◌}
+use Rattle.std.specs.Prelude.{if◌then◌else◌}
 use Rattle.std.specs.List.{AllByRecursion, filter, flat_map, list_all}
 use Rattle.serde_json.specs.Data.{Data, null, boolean, number, string, array, object, Items, no_items, item, Members, no_members, member, depth, items_depth, members_depth}
 use Rattle.strkw_keywords.specs.Errors.{Assertion}
-use Rattle.neldrafi_schema.specs.Paths.{Segment, key, place, child}
 use Rattle.neldrafi_schema.specs.Refusals.{is_in_place}
-use Rattle.neldrafi_schema.specs.Rules.{Child, Target, applied, child_at, counts_nothing, first_of, is_matched, is_present, item_list, items_in, member_list, members_in, on_child, on_each, on_items, on_itself, on_matched, on_members, on_names, option_list, other_items_in, other_members_in, others_of, path_of, placed_from, placed_items, spans, target, tested, valid_of}
+use Rattle.neldrafi_schema.specs.Rules.{Child, Target, applied, child_at, counts_nothing, first_of, is_matched, is_present, item_list, member_list, members_in, on_child, on_each, on_items, on_itself, on_matched, on_members, on_names, option_list, other_items_in, other_members_in, others_of, path_of, placed_from, placed_items, spans, target, tested, valid_of}
 use Rattle.neldrafi_schema.specs.Schemas.{Rule, types, among, equal_to, limited, multiple_of, sized, distinct, required, reference, all_of, dependent, properties, matching, other_members, no_other_members, member_names, placed, other_items, no_other_items, negation, any_of, one_of, contains, where_valid, where_not_valid, condition, unevaluated, held, Branch, Keyword}
 use Rattle.neldrafi_schema.proofs.Depth.{child_depth}
 

@@ -91,7 +91,7 @@ held_by held.ByKey one members = members
 abbrev pub named_anchors : Bool → Option (List ℕ) → List Anchor
 named_anchors is_dynamic name = map (λ anchor. (anchor, is_dynamic)) (option_list name)
 
--- of `$id`: the resource, to which `$recursiveAnchor` speaks, and up to draft 7 the fragment
+-- of `$id`: the resource itself, dynamic by `$recursiveAnchor`, and its fragment, up to draft 7
 abbrev pub resource_anchors : Bool → Option (List ℕ) → List Anchor
 resource_anchors recursive (Some id) = ([], recursive) ∷ named_anchors false (fragment_of id)
 resource_anchors recursive None = []

@@ -47,8 +47,8 @@ abbrev pub entered : Draft → Documents → Scope → Path → Scope
 entered draft documents scope path =
     entered_by (all_identifiers draft documents) scope (base_among draft documents path)
 
--- The resource to which a reference leads that names this one, with a plain name. Only if it has a
--- dynamic anchor of this name, the outermost such resource counts.
+-- The resource to which a reference leads, by the resource and the plain name that it has: if that
+-- resource has a dynamic anchor of this name, the outermost one that has, and else itself.
 abbrev pub dynamic_resource : List Identifier → Scope → List ℕ → List ℕ → List ℕ
 dynamic_resource ids scope name uri =
     if has_dynamic ids name uri then unwrap_or (outermost ids name scope) uri else uri

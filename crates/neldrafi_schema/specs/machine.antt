@@ -11,4 +11,6 @@ pub mod Said
 pub mod Words
 pub mod Sound
 pub mod Single
+pub mod Ordered
+pub mod Conditions
 pub mod Leads

@@ -1,6 +1,6 @@
 //! What keywords report themselves.
 
-ghost use Rattle.std.specs.Prelude.{◌↔◌, ◌≡◌, ◌++◌, ◌∷◌, ℕ, IfOk, IsTrue, List, OnOk, Some, [], false, map, option_map, string_bytes, true};
+ghost use Rattle.std.specs.Prelude.{◌↔◌, ◌≡◌, ◌++◌, ◌∷◌, ℕ, IfOk, IfSome, IsTrue, List, OnOk, Some, [], false, map, option_map, string_bytes, true};
 ghost use Rattle.std.specs.List.{flat_map, list_all, list_any};
 ghost use Rattle.serde_json.specs.Data.{Data};
 ghost use Rattle.serde_json.specs.View.{number_view, view};
@@ -14,7 +14,7 @@ ghost use Rattle.neldrafi_schema.specs.Schemas.{Keyword};
 ghost use Rattle.neldrafi_schema.specs.Types.{counts_as};
 ghost use Rattle.neldrafi_schema.specs.machine.Compiled.{branches_of, children_of, dependency_of, rule_of};
 ghost use Rattle.neldrafi_schema.specs.machine.Found.{kind_of, kinds_of};
-ghost use Rattle.neldrafi_schema.specs.machine.Single.{is_single, looks_beside};
+ghost use Rattle.neldrafi_schema.specs.machine.Single.{IsPlainVerdict, is_single, looks_beside};
 
 use crate::equality::{are_distinct, same};
 use crate::error::ErrorKind;
@@ -125,6 +125,39 @@ fn failure<E>(
         Rule::Contains(_, _, _) => Ok(Some(ErrorKind::Contains)),
         _ => Ok(None),
     }
+}
+
+/// Whether an instance is as a rule wants it that leads to no schema and looks at no rule beside; of other rules nothing.
+pub(crate) fn plain_verdict<E>(rule: &Rule<E>, instance: &Value) -> Option<bool>
+    ensures { (outcome : E → List ℕ → Outcome) → IfSome result
+        (λ b. IsPlainVerdict (rule_of outcome rule.now) (view instance.now) b) }
+{
+    match rule {
+        Rule::Types(_, _)
+        | Rule::Among(_)
+        | Rule::EqualTo(_)
+        | Rule::Limited(_, _)
+        | Rule::MultipleOf(_)
+        | Rule::Sized(_, _)
+        | Rule::Distinct => Some(holds(rule, instance, &[])),
+        Rule::Required(names) => Some(has_all(names, instance)),
+        _ => None,
+    }
+}
+
+// Whether an object has all of these names; any other value lacks none.
+fn has_all(names: &[String], instance: &Value) -> bool
+    ensures { IsTrue result ↔ (missing_in (view instance.now) (map string_bytes names.now) ≡ []) }
+{
+    if !instance.is_object() {
+        return true;
+    }
+    for name in names {
+        if instance.get(name.as_str()).is_none() {
+            return false;
+        }
+    }
+    true
 }
 
 fn none_of(alloc: Global, name: &str) -> Result<Option<ErrorKind>, AllocError>

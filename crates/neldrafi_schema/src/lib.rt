@@ -2,13 +2,16 @@
 #![tactic(auto)]
 
 mod assertions;
+mod branches;
 mod collecting;
 mod compile;
+mod conditions;
 mod config;
 mod documents;
 mod ends;
 mod equality;
 mod error;
+mod evaluated;
 mod identifiers;
 mod json_type;
 mod kinds;

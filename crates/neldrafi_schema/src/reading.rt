@@ -1,7 +1,6 @@
 //! What the schemas of a document say.
 
-ghost use Rattle.std.specs.Prelude.{◌≡◌, ◌<◌, ◌++◌, ◌∷◌, ℕ, List, IfOk, OnOk, Some, [], length, map, option_map, unwrap_or};
-ghost use Rattle.std.specs.List.{AllByRecursion};
+ghost use Rattle.std.specs.Prelude.{◌≡◌, ◌<◌, ◌++◌, ◌∷◌, ℕ, List, IfOk, OnOk, Some, [], option_map, unwrap_or};
 ghost use Rattle.serde_json.specs.Data.{Data, member as member_of, no_members, number, object as object_of, unsigned};
 ghost use Rattle.serde_json.specs.Find.{as_object};
 ghost use Rattle.serde_json.specs.View.{members_view, view};
@@ -15,20 +14,21 @@ ghost use Rattle.neldrafi_schema.specs.Paths.{Path, key, location_of as location
 ghost use Rattle.neldrafi_schema.specs.References.{schema_referred};
 ghost use Rattle.neldrafi_schema.specs.Scopes.{ScopedPath};
 ghost use Rattle.neldrafi_schema.specs.Values.{reference_sense};
-ghost use Rattle.neldrafi_schema.specs.Reading.{AreNumbered, BodySays, KnownSays, PatternPropertiesSay, PatternsAre, SenseSays, TextSays, handed};
+ghost use Rattle.neldrafi_schema.specs.Reading.{BodySays, KnownSays, PatternPropertiesSay, PatternsAre, SenseSays, TextSays, handed};
 ghost use Rattle.neldrafi_schema.specs.Settings.{config_settings, keyword_settings};
-ghost use Rattle.neldrafi_schema.specs.machine.Compiled.{branches_of, path_of};
+ghost use Rattle.neldrafi_schema.specs.machine.Compiled.{path_of};
 ghost use Rattle.neldrafi_schema.specs.machine.Identifiers.{IsLibraryOf};
 ghost use Rattle.neldrafi_schema.specs.machine.Leads.{AreLeads, IsThere, boolean_of};
-ghost use Rattle.neldrafi_schema.specs.machine.Places.{documents_of, Extends, Grown, IsPlace, IsTable, StaysAt, place_path, scope_of, scoped_paths};
-ghost use Rattle.neldrafi_schema.specs.machine.Said.{Always, ArePatternsReady, IsReadReady, IsSaidReady, IsSenseReady, Reads, is_out_of_memory, lead_of, patterns_of, read_keywords, said_keywords, sense_of};
+ghost use Rattle.neldrafi_schema.specs.machine.Places.{documents_of, Grown, IsTable, scope_of, scoped_paths};
+ghost use Rattle.neldrafi_schema.specs.machine.Said.{Always, ArePatternsReady, IsReadReady, IsSaidReady, IsSenseReady, Reads, is_out_of_memory, patterns_of, read_keywords, said_keywords, sense_of};
 
+use crate::branches::branches_of;
 use crate::config::Config;
 use crate::known::{Known, is_draft_4};
-use crate::leads::{Lead, member_leads};
-use crate::node::{Body, Branch, Keyword, Node, Rule, Ruled};
+use crate::leads::member_leads;
+use crate::node::{Body, Keyword, Node, Rule, Ruled};
 use crate::numbers::size_in;
-use crate::places::{Place, Places, location_of, path_below};
+use crate::places::{Places, location_of, path_below};
 use crate::problem::Problem;
 use crate::references::Library;
 use crate::refusal::SchemaErrorKind;
@@ -458,54 +458,4 @@ fn values_of(value: &Value, keyword: TextKeyword) -> Values<'_>
         TextKeyword::Pattern => values.pattern = Some(value),
     }
     values
-}
-
-// A schema that is no part of the keyword's value may have been numbered before.
-fn number_of<'v>(
-    alloc: Global,
-    scope: &[String],
-    place: Place<'v>,
-    is_part: bool,
-    places: &mut Places<'v>,
-) -> Result<usize, AllocError>
-    requires table { IsTable places.old }
-    requires there { IsPlace (documents_of places.old.documents) place }
-    ensures number { IfOk result (λ n. StaysAt (scoped_paths places.new.places.items) n
-        (scope_of scope.now) (place_path place.entry)) }
-    ensures grown { OnOk result (Grown places.old places.new) }
-{
-    if is_part {
-        places.number(alloc, scope, place)
-    } else {
-        places.number_known(alloc, scope, place)
-    }
-}
-
-// The schemas of leads, entered from a scope, by number.
-fn branches_of<'v>(
-    alloc: Global,
-    scope: &[String],
-    leads: Vec<Lead<'v>>,
-    places: &mut Places<'v>,
-) -> Result<Vec<Branch>, AllocError>
-    requires table { IsTable places.old }
-    requires there { AllByRecursion (λ l. IsPlace (documents_of places.old.documents) l.place)
-        leads.items }
-    ensures numbered { IfOk result (λ bs. Always (scoped_paths places.new.places.items)
-        (scope_of scope.now) (λ numbered.
-        AreNumbered numbered (map lead_of leads.entry.items) (branches_of bs.items))) }
-    ensures inside { IfOk result (λ bs. (all : List ScopedPath)
-        → Extends (scoped_paths places.new.places.items) all
-        → AllByRecursion (λ b. b.schema < length all) bs.items) }
-    ensures grown { OnOk result (Grown places.old places.new) }
-{
-    let mut branches = Vec::new(alloc);
-    for lead in leads {
-        let schema = number_of(alloc, scope, lead.place, lead.key.is_some(), places)?;
-        branches.push(Branch {
-            key: lead.key,
-            schema,
-        })?;
-    }
-    Ok(branches)
 }

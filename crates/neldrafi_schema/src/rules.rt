@@ -1,6 +1,6 @@
 //! What a rule reports itself of an instance, and the values of which its schemas have to report all errors.
 
-ghost use Rattle.std.specs.Prelude.{IfOk, OnOk, Some, [], drop, if◌then◌else◌, length, map, option_map, string_bytes, true, ◌++◌, ◌<◌, ◌≡◌};
+ghost use Rattle.std.specs.Prelude.{IfOk, IsTrue, OnOk, Some, [], drop, if◌then◌else◌, length, map, option_map, string_bytes, true, ◌++◌, ◌<◌, ◌≡◌};
 ghost use Rattle.std.specs.List.{AllByRecursion, filter, flat_map, list_any};
 ghost use Rattle.serde_json.specs.View.{view};
 ghost use Rattle.strkw_keywords.specs.Meanings.{Lists};
@@ -10,6 +10,7 @@ ghost use Rattle.neldrafi_schema.specs.Rules.{applied, first_of, is_matched, is_
 ghost use Rattle.neldrafi_schema.specs.machine.Closures.{MayTest, Tests};
 ghost use Rattle.neldrafi_schema.specs.machine.Compiled.{branch_of, branches_of, keyword_of, keywords_of, rule_of, segment_of, targets_of};
 ghost use Rattle.neldrafi_schema.specs.machine.Found.{kinds_of};
+ghost use Rattle.neldrafi_schema.specs.machine.Ordered.{AreInOrder, IsInOrder, name_in};
 ghost use Rattle.neldrafi_schema.specs.machine.Ready.{IsKeywordReady, IsPatternReady, IsRuledReady};
 
 use crate::error::ErrorKind;
@@ -90,8 +91,9 @@ impl<E: RegexEngine, T: Fn(&Validator<E>, Option<&str>) -> Result<bool, AllocErr
         let Some(members) = instance.as_object() else {
             return Ok(names);
         };
+        let in_order = are_all_in_order(beside);
         for (name, _) in members.iter() {
-            if !self.is_led_to(beside, name.as_str())? {
+            if !self.is_led_to(beside, in_order, name.as_str())? {
                 names.push(name.clone()?)?;
             }
         }
@@ -217,33 +219,41 @@ impl<E: RegexEngine, T: Fn(&Validator<E>, Option<&str>) -> Result<bool, AllocErr
         let Some(members) = instance.as_object() else {
             return Ok(());
         };
+        let in_order = are_all_in_order(beside);
         for (name, value) in members.iter() {
-            if !self.is_led_to(beside, name.as_str())? {
+            if !self.is_led_to(beside, in_order, name.as_str())? {
                 push_member(branch, name.as_str(), value, targets)?;
             }
         }
         Ok(())
     }
 
-    // Whether a rule leads to the member of a name.
-    fn is_led_to(&self, beside: &[Keyword<E>], name: &str) -> Result<bool, AllocError>
+    // Whether a rule leads to the member of a name. The keys of `properties` may be in order.
+    fn is_led_to(
+        &self,
+        beside: &[Keyword<E>],
+        in_order: bool,
+        name: &str,
+    ) -> Result<bool, AllocError>
         requires others { AllByRecursion (IsKeywordReady E.outcome
             (MayTest T.Fn self.now.text_accepts.now) (length self.now.nodes.now)) beside.now }
+        requires order { in_order ≡ true → AllByRecursion IsInOrder beside.now }
         ensures { (lists : Lists) → Tests T.Fn self.now.text_accepts.now E.outcome lists
             → IfOk result (λ b. b
             ≡ list_any (leads_to name.now) (keywords_of E.outcome beside.now)) }
     {
         for keyword in beside {
-            if self.leads_to(keyword, name)? {
+            if self.leads_to(keyword, in_order, name)? {
                 return Ok(true);
             }
         }
         Ok(false)
     }
 
-    fn leads_to(&self, keyword: &Keyword<E>, name: &str) -> Result<bool, AllocError>
-        requires { IsKeywordReady E.outcome (MayTest T.Fn self.now.text_accepts.now)
+    fn leads_to(&self, keyword: &Keyword<E>, in_order: bool, name: &str) -> Result<bool, AllocError>
+        requires ready { IsKeywordReady E.outcome (MayTest T.Fn self.now.text_accepts.now)
             (length self.now.nodes.now) keyword.now }
+        requires order { in_order ≡ true → IsInOrder keyword.now }
         ensures { (lists : Lists) → Tests T.Fn self.now.text_accepts.now E.outcome lists
             → IfOk result (λ b. b ≡ leads_to name.now (keyword_of E.outcome keyword.now)) }
     {
@@ -251,6 +261,7 @@ impl<E: RegexEngine, T: Fn(&Validator<E>, Option<&str>) -> Result<bool, AllocErr
             return Ok(false);
         };
         match &ruled.rule {
+            Rule::Properties if in_order => Ok(has_branch_in_order(&ruled.branches, name)),
             Rule::Properties => Ok(has_branch(&ruled.branches, name)),
             Rule::Matching(patterns) => self.is_matched(patterns, name),
             _ => Ok(false),
@@ -280,6 +291,59 @@ impl<E: RegexEngine, T: Fn(&Validator<E>, Option<&str>) -> Result<bool, AllocErr
             → IfOk result (λ b. b ≡ is_matched name.now (assertions_of E.outcome pattern.now)) }
     {
         (self.text_accepts)(pattern, Some(name))
+    }
+}
+
+// So many keys are compared one by one in less time than it takes to search them.
+const FEW: usize = 64;
+
+// Whether the keys of `properties` are many and in order, as those of an object's members are: they are then searched.
+fn are_all_in_order<E>(keywords: &[Keyword<E>]) -> bool
+    ensures { IsTrue result → AllByRecursion IsInOrder keywords.now }
+{
+    for keyword in keywords {
+        if !is_in_order(keyword) {
+            return false;
+        }
+    }
+    true
+}
+
+fn is_in_order<E>(keyword: &Keyword<E>) -> bool
+    ensures { IsTrue result → IsInOrder keyword.now }
+{
+    let Keyword::Rule(ruled) = keyword else {
+        return true;
+    };
+    match &ruled.rule {
+        Rule::Properties => FEW < ruled.branches.len() && are_in_order(&ruled.branches),
+        _ => true,
+    }
+}
+
+fn are_in_order(branches: &[Branch]) -> bool
+    ensures { IsTrue result → AreInOrder branches.now }
+{
+    branches.is_sorted_by(|a, b| name_in(&a.key).cmp(name_in(&b.key)).is_le())
+}
+
+// The name of a key, or an empty one.
+fn name_in(key: &Option<Segment>) -> &str
+    ensures { result.now ≡ name_in key.now }
+{
+    match key {
+        Some(Segment::Key(name)) => name.as_str(),
+        _ => "",
+    }
+}
+
+fn has_branch_in_order(branches: &[Branch], name: &str) -> bool
+    requires { AreInOrder branches.now }
+    ensures { result ≡ list_any (λ b. is_named name.now b.key) (branches_of branches.now) }
+{
+    match branches.binary_search_by(|branch| name_in(&branch.key).cmp(name)) {
+        Ok(place) => is_named(&branches[place].key, name) || has_branch(branches, name),
+        Err(_) => false,
     }
 }
 

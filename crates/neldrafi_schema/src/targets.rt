@@ -141,7 +141,8 @@ pub(crate) fn on_children<'a>(
     Ok(targets)
 }
 
-fn child_of<'a>(branch: &Branch, instance: &'a Value) -> Option<&'a Value>
+/// The value at a schema's own segment.
+pub(crate) fn child_of<'a>(branch: &Branch, instance: &'a Value) -> Option<&'a Value>
     ensures { option_map (λ v. view v.now) result
         ≡ child_at (view instance.now) (branch_of branch.now) }
 {

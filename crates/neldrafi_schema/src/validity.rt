@@ -1,23 +1,25 @@
 //! Whether an instance has no errors.
 
-ghost use Rattle.std.specs.Prelude.{IfOk, IsTrue, List, None, OnOk, Some, [], if◌then◌else◌, length, true, ℕ, ◌<◌, ◌↔◌, ◌≡◌, ◌≤◌};
-ghost use Rattle.std.specs.List.{AllByRecursion, list_all};
+ghost use Rattle.std.specs.Prelude.{IfOk, IsTrue, List, None, Some, [], drop, if◌then◌else◌, length, true, ℕ, ◌<◌, ◌↔◌, ◌≡◌, ◌≤◌};
+ghost use Rattle.std.specs.List.{AllByRecursion, flat_map, list_all};
 ghost use Rattle.serde_json.specs.View.{view};
 ghost use Rattle.strkw_report.specs.declared.error.Site.{Site};
 ghost use Rattle.strkw_keywords.specs.Meanings.{Lists};
-ghost use Rattle.neldrafi_schema.specs.Meaning.{AreUnevaluated, AreVerdicts, BesideEvaluates, Evaluates, KeywordEvaluates, KeywordReports, Reports, TargetEvaluates};
+ghost use Rattle.neldrafi_schema.specs.Meaning.{AreVerdicts, EachReports, KeywordReports, Reports};
 ghost use Rattle.neldrafi_schema.specs.Refusals.{ends, in_place, is_in_place, keywords_end};
-ghost use Rattle.neldrafi_schema.specs.Rules.{part_of, tested};
+ghost use Rattle.neldrafi_schema.specs.Rules.{on_child, on_items, placed_items, tested};
 ghost use Rattle.neldrafi_schema.specs.machine.Closures.{MayTest, Tests};
-ghost use Rattle.neldrafi_schema.specs.machine.Compiled.{branches_of, children_of, keyword_of, keywords_of, rule_of, ruled_of, schemas_of, target_of, targets_of};
+ghost use Rattle.neldrafi_schema.specs.machine.Compiled.{branch_of, branches_of, keyword_of, keywords_of, rule_of, ruled_of, schemas_of, targets_of};
+ghost use Rattle.neldrafi_schema.specs.machine.Conditions.{IsKnown};
 ghost use Rattle.neldrafi_schema.specs.machine.Found.{kinds_of};
-ghost use Rattle.neldrafi_schema.specs.machine.Left.{AreFindings, AreSpans, EndsHere, Takes};
+ghost use Rattle.neldrafi_schema.specs.machine.Left.{AreFindings};
 ghost use Rattle.neldrafi_schema.specs.machine.Ready.{IsKeywordReady, IsReady, IsRuledReady, steps_for};
 
+use crate::conditions::{Choice, Conditional, choice_of, condition_of};
 use crate::error::ErrorKind;
-use crate::kinds::left_kinds;
-use crate::node::{Body, Keyword, Node, Part, Rule, Ruled};
-use crate::targets::{Child, Target, children, on_each, take_at, take_part, tested, valid_of};
+use crate::kinds::{left_kinds, plain_verdict};
+use crate::node::{Body, Branch, Keyword, Node, Rule, Ruled};
+use crate::targets::{Target, child_of, on_each, placed_count, tested};
 use serde_json::Value;
 use std::alloc::{AllocError, Global};
 use strkw_keywords::Validator;
@@ -61,12 +63,90 @@ impl<E: RegexEngine, T: Fn(&Validator<E>, Option<&str>) -> Result<bool, AllocErr
             Body::Never => return Ok(false),
             Body::Keywords(keywords) => keywords,
         };
+        let condition = self.condition(alloc, keywords, steps - 1, instance)?;
         for keyword in keywords {
-            if !self.keyword_accepts(alloc, keywords, keyword, steps - 1, instance)? {
+            let conditional = Conditional { keyword, condition };
+            if !self.conditional_accepts(alloc, keywords, &conditional, steps - 1, instance)? {
                 return Ok(false);
             }
         }
         Ok(true)
+    }
+
+    // The schema of `if` to which `then` or `else` leads, and whether the instance has no errors by it.
+    #[cycle(accepts)]
+    fn condition(
+        &self,
+        alloc: Global,
+        keywords: &[Keyword<E>],
+        steps: usize,
+        instance: &Value,
+    ) -> Result<Option<(usize, bool)>, AllocError>
+        requires ready { IsReady E.outcome (MayTest T.Fn self.now.text_accepts.now)
+            self.now.nodes.now }
+        requires answers { (lists : Lists)
+            × Tests T.Fn self.now.text_accepts.now E.outcome lists }
+        requires few { steps ≤ length self.now.nodes.now }
+        requires ends { keywords_end (ends (schemas_of E.outcome self.now.nodes.now) steps)
+            (keywords_of E.outcome keywords.now) ≡ true }
+        ensures { (lists : Lists) → Tests T.Fn self.now.text_accepts.now E.outcome lists
+            → IfOk result (λ known. (k : ℕ)
+            → steps_for (length self.now.nodes.now) (view instance.now) steps ≤ k
+            → IsKnown (Reports (schemas_of E.outcome self.now.nodes.now) lists k)
+            (view instance.now) known) }
+    {
+        for keyword in keywords {
+            if let Some(number) = condition_of(keyword) {
+                let valid = self.accepts(alloc, number, steps, instance)?;
+                return Ok(Some((number, valid)));
+            }
+        }
+        Ok(None)
+    }
+
+    // The same as the next, if the verdict on `if` may be known.
+    #[cycle(accepts)]
+    fn conditional_accepts(
+        &self,
+        alloc: Global,
+        beside: &[Keyword<E>],
+        conditional: &Conditional<'_, E>,
+        steps: usize,
+        instance: &Value,
+    ) -> Result<bool, AllocError>
+        requires ready { IsReady E.outcome (MayTest T.Fn self.now.text_accepts.now)
+            self.now.nodes.now }
+        requires answers { (lists : Lists)
+            × Tests T.Fn self.now.text_accepts.now E.outcome lists }
+        requires few { steps ≤ length self.now.nodes.now }
+        requires this { IsKeywordReady E.outcome (MayTest T.Fn self.now.text_accepts.now)
+            (length self.now.nodes.now) conditional.now.keyword.now }
+        requires others { AllByRecursion (IsKeywordReady E.outcome
+            (MayTest T.Fn self.now.text_accepts.now) (length self.now.nodes.now)) beside.now }
+        requires ends { keywords_end (ends (schemas_of E.outcome self.now.nodes.now) steps)
+            (keywords_of E.outcome beside.now) ≡ true }
+        requires end { list_all (ends (schemas_of E.outcome self.now.nodes.now) steps)
+            (in_place (keyword_of E.outcome conditional.now.keyword.now)) ≡ true }
+        requires condition { (lists : Lists) → Tests T.Fn self.now.text_accepts.now E.outcome lists
+            → (k : ℕ) → steps_for (length self.now.nodes.now) (view instance.now) steps ≤ k
+            → IsKnown (Reports (schemas_of E.outcome self.now.nodes.now) lists k)
+            (view instance.now) conditional.now.condition }
+        ensures { (lists : Lists) → Tests T.Fn self.now.text_accepts.now E.outcome lists
+            → IfOk result (λ b. (k : ℕ) (location : List ℕ) (site : Site)
+            → steps_for (length self.now.nodes.now) (view instance.now) steps ≤ k
+            → IsTrue b ↔ KeywordReports
+            (schemas_of E.outcome self.now.nodes.now)
+            (Reports (schemas_of E.outcome self.now.nodes.now) lists k) lists location
+            (keywords_of E.outcome beside.now) (keyword_of E.outcome conditional.now.keyword.now)
+            (view instance.now) site []) }
+    {
+        match choice_of(conditional) {
+            Choice::Unknown => {
+                self.keyword_accepts(alloc, beside, conditional.keyword, steps, instance)
+            }
+            Choice::Passes => Ok(true),
+            Choice::Leads(number) => self.accepts(alloc, number, steps, instance),
+        }
     }
 
     #[cycle(accepts)]
@@ -108,6 +188,142 @@ impl<E: RegexEngine, T: Fn(&Validator<E>, Option<&str>) -> Result<bool, AllocErr
 
     #[cycle(accepts)]
     fn rule_accepts(
+        &self,
+        alloc: Global,
+        beside: &[Keyword<E>],
+        ruled: &Ruled<E>,
+        steps: usize,
+        instance: &Value,
+    ) -> Result<bool, AllocError>
+        requires ready { IsReady E.outcome (MayTest T.Fn self.now.text_accepts.now)
+            self.now.nodes.now }
+        requires answers { (lists : Lists)
+            × Tests T.Fn self.now.text_accepts.now E.outcome lists }
+        requires few { steps ≤ length self.now.nodes.now }
+        requires this { IsRuledReady E.outcome (MayTest T.Fn self.now.text_accepts.now)
+            (length self.now.nodes.now) ruled.now }
+        requires others { AllByRecursion (IsKeywordReady E.outcome
+            (MayTest T.Fn self.now.text_accepts.now) (length self.now.nodes.now)) beside.now }
+        requires ends { keywords_end (ends (schemas_of E.outcome self.now.nodes.now) steps)
+            (keywords_of E.outcome beside.now) ≡ true }
+        requires end { list_all (ends (schemas_of E.outcome self.now.nodes.now) steps)
+            (in_place (ruled_of E.outcome ruled.now)) ≡ true }
+        ensures { (lists : Lists) → Tests T.Fn self.now.text_accepts.now E.outcome lists
+            → IfOk result (λ b. (k : ℕ) (location : List ℕ) (site : Site)
+            → steps_for (length self.now.nodes.now) (view instance.now) steps ≤ k
+            → IsTrue b ↔ KeywordReports
+            (schemas_of E.outcome self.now.nodes.now)
+            (Reports (schemas_of E.outcome self.now.nodes.now) lists k) lists location
+            (keywords_of E.outcome beside.now) (ruled_of E.outcome ruled.now)
+            (view instance.now) site []) }
+    {
+        match &ruled.rule {
+            Rule::Properties => self.children_accept(alloc, &ruled.branches, instance),
+            Rule::Placed => self.children_accept(alloc, &ruled.branches, instance),
+            Rule::OtherItems => {
+                self.items_accept(alloc, &ruled.branches, placed_count(beside), instance)
+            }
+            rule => match plain_verdict(rule, instance) {
+                Some(holds) => Ok(holds),
+                None => self.found_accepts(alloc, beside, ruled, steps, instance),
+            },
+        }
+    }
+
+    // Whether what is at the segment of each schema has no errors by it.
+    #[cycle(accepts)]
+    fn children_accept(
+        &self,
+        alloc: Global,
+        branches: &[Branch],
+        instance: &Value,
+    ) -> Result<bool, AllocError>
+        requires ready { IsReady E.outcome (MayTest T.Fn self.now.text_accepts.now)
+            self.now.nodes.now }
+        requires answers { (lists : Lists)
+            × Tests T.Fn self.now.text_accepts.now E.outcome lists }
+        requires there { AllByRecursion (λ b. b.schema < length self.now.nodes.now) branches.now }
+        ensures { (lists : Lists) → Tests T.Fn self.now.text_accepts.now E.outcome lists
+            → IfOk result (λ b. (k : ℕ) (site : Site) (word : List ℕ)
+            → steps_for (length self.now.nodes.now) (view instance.now) 0 ≤ k
+            → IsTrue b ↔ EachReports (Reports (schemas_of E.outcome self.now.nodes.now) lists k)
+            site word (flat_map (on_child (view instance.now)) (branches_of branches.now)) []) }
+    {
+        for branch in branches {
+            if let Some(value) = child_of(branch, instance) {
+                if !self.accepts(alloc, branch.schema, self.nodes.len(), value)? {
+                    return Ok(false);
+                }
+            }
+        }
+        Ok(true)
+    }
+
+    // Whether the items from a place on have no errors by each schema.
+    #[cycle(accepts)]
+    fn items_accept(
+        &self,
+        alloc: Global,
+        branches: &[Branch],
+        from: usize,
+        instance: &Value,
+    ) -> Result<bool, AllocError>
+        requires ready { IsReady E.outcome (MayTest T.Fn self.now.text_accepts.now)
+            self.now.nodes.now }
+        requires answers { (lists : Lists)
+            × Tests T.Fn self.now.text_accepts.now E.outcome lists }
+        requires there { AllByRecursion (λ b. b.schema < length self.now.nodes.now) branches.now }
+        ensures { (lists : Lists) → Tests T.Fn self.now.text_accepts.now E.outcome lists
+            → IfOk result (λ b. (k : ℕ) (site : Site) (word : List ℕ)
+            → steps_for (length self.now.nodes.now) (view instance.now) 0 ≤ k
+            → IsTrue b ↔ EachReports (Reports (schemas_of E.outcome self.now.nodes.now) lists k)
+            site word (flat_map (on_items (drop from (placed_items (view instance.now))))
+            (branches_of branches.now)) []) }
+    {
+        for branch in branches {
+            if !self.items_accept_by(alloc, branch, from, instance)? {
+                return Ok(false);
+            }
+        }
+        Ok(true)
+    }
+
+    #[cycle(accepts)]
+    fn items_accept_by(
+        &self,
+        alloc: Global,
+        branch: &Branch,
+        from: usize,
+        instance: &Value,
+    ) -> Result<bool, AllocError>
+        requires ready { IsReady E.outcome (MayTest T.Fn self.now.text_accepts.now)
+            self.now.nodes.now }
+        requires answers { (lists : Lists)
+            × Tests T.Fn self.now.text_accepts.now E.outcome lists }
+        requires there { branch.now.schema < length self.now.nodes.now }
+        ensures { (lists : Lists) → Tests T.Fn self.now.text_accepts.now E.outcome lists
+            → IfOk result (λ b. (k : ℕ) (site : Site) (word : List ℕ)
+            → steps_for (length self.now.nodes.now) (view instance.now) 0 ≤ k
+            → IsTrue b ↔ EachReports (Reports (schemas_of E.outcome self.now.nodes.now) lists k)
+            site word (on_items (drop from (placed_items (view instance.now)))
+            (branch_of branch.now)) []) }
+    {
+        let Some(items) = instance.as_array() else {
+            return Ok(true);
+        };
+        for (place, item) in items.iter().enumerate() {
+            if place >= from {
+                if !self.accepts(alloc, branch.schema, self.nodes.len(), item)? {
+                    return Ok(false);
+                }
+            }
+        }
+        Ok(true)
+    }
+
+    // By what is found.
+    #[cycle(accepts)]
+    fn found_accepts(
         &self,
         alloc: Global,
         beside: &[Keyword<E>],
@@ -192,264 +408,6 @@ impl<E: RegexEngine, T: Fn(&Validator<E>, Option<&str>) -> Result<bool, AllocErr
             kinds,
             self.applied(alloc, beside, ruled, instance, &verdicts)?,
         ))
-    }
-
-    // The members or items of an instance that no keyword evaluates.
-    #[cycle(accepts)]
-    fn left<'a>(
-        &self,
-        alloc: Global,
-        keywords: &[Keyword<E>],
-        part: Part,
-        steps: usize,
-        instance: &'a Value,
-    ) -> Result<Vec<Child<'a>>, AllocError>
-        requires ready { IsReady E.outcome (MayTest T.Fn self.now.text_accepts.now)
-            self.now.nodes.now }
-        requires answers { (lists : Lists)
-            × Tests T.Fn self.now.text_accepts.now E.outcome lists }
-        requires few { steps ≤ length self.now.nodes.now }
-        requires others { AllByRecursion (IsKeywordReady E.outcome
-            (MayTest T.Fn self.now.text_accepts.now) (length self.now.nodes.now)) keywords.now }
-        requires ends { keywords_end (ends (schemas_of E.outcome self.now.nodes.now) steps)
-            (keywords_of E.outcome keywords.now) ≡ true }
-        ensures { (lists : Lists) → Tests T.Fn self.now.text_accepts.now E.outcome lists
-            → IfOk result (λ left. (k : ℕ)
-            → steps_for (length self.now.nodes.now) (view instance.now) steps ≤ k
-            → AreUnevaluated (schemas_of E.outcome self.now.nodes.now)
-            (Reports (schemas_of E.outcome self.now.nodes.now) lists k)
-            (keywords_of E.outcome keywords.now) (view instance.now) (Some part)
-            (children_of left.items)) }
-    {
-        let mut left = children(alloc, part, instance)?;
-        for keyword in keywords {
-            self.take_beside(alloc, keywords, keyword, steps, instance, &mut left)?;
-        }
-        Ok(left)
-    }
-
-    // Takes from what is left what a keyword beside evaluates.
-    #[cycle(accepts)]
-    fn take_beside(
-        &self,
-        alloc: Global,
-        beside: &[Keyword<E>],
-        keyword: &Keyword<E>,
-        steps: usize,
-        instance: &Value,
-        left: &mut Vec<Child<'_>>,
-    ) -> Result<(), AllocError>
-        requires ready { IsReady E.outcome (MayTest T.Fn self.now.text_accepts.now)
-            self.now.nodes.now }
-        requires answers { (lists : Lists)
-            × Tests T.Fn self.now.text_accepts.now E.outcome lists }
-        requires few { steps ≤ length self.now.nodes.now }
-        requires this { IsKeywordReady E.outcome (MayTest T.Fn self.now.text_accepts.now)
-            (length self.now.nodes.now) keyword.now }
-        requires others { AllByRecursion (IsKeywordReady E.outcome
-            (MayTest T.Fn self.now.text_accepts.now) (length self.now.nodes.now)) beside.now }
-        requires end { list_all (ends (schemas_of E.outcome self.now.nodes.now) steps)
-            (in_place (keyword_of E.outcome keyword.now)) ≡ true }
-        ensures { (lists : Lists) → Tests T.Fn self.now.text_accepts.now E.outcome lists
-            → OnOk result ((k : ℕ)
-            → steps_for (length self.now.nodes.now) (view instance.now) steps ≤ k
-            → Takes (λ s. BesideEvaluates (schemas_of E.outcome self.now.nodes.now)
-            (Reports (schemas_of E.outcome self.now.nodes.now) lists k)
-            (keywords_of E.outcome beside.now) (view instance.now) s
-            (keyword_of E.outcome keyword.now)) left.old.items left.new.items) }
-    {
-        let Keyword::Rule(ruled) = keyword else {
-            return Ok(());
-        };
-        match ruled.rule {
-            Rule::Unevaluated(_) => Ok(()),
-            _ => self.take_evaluated(alloc, beside, ruled, steps, instance, left),
-        }
-    }
-
-    // Takes from what is left what a keyword evaluates that does not speak of it.
-    #[cycle(accepts)]
-    fn take_evaluated(
-        &self,
-        alloc: Global,
-        beside: &[Keyword<E>],
-        ruled: &Ruled<E>,
-        steps: usize,
-        instance: &Value,
-        left: &mut Vec<Child<'_>>,
-    ) -> Result<(), AllocError>
-        requires ready { IsReady E.outcome (MayTest T.Fn self.now.text_accepts.now)
-            self.now.nodes.now }
-        requires answers { (lists : Lists)
-            × Tests T.Fn self.now.text_accepts.now E.outcome lists }
-        requires few { steps ≤ length self.now.nodes.now }
-        requires this { IsRuledReady E.outcome (MayTest T.Fn self.now.text_accepts.now)
-            (length self.now.nodes.now) ruled.now }
-        requires others { AllByRecursion (IsKeywordReady E.outcome
-            (MayTest T.Fn self.now.text_accepts.now) (length self.now.nodes.now)) beside.now }
-        requires end { list_all (ends (schemas_of E.outcome self.now.nodes.now) steps)
-            (in_place (ruled_of E.outcome ruled.now)) ≡ true }
-        requires speaks { part_of (rule_of E.outcome ruled.now.rule) ≡ None }
-        ensures { (lists : Lists) → Tests T.Fn self.now.text_accepts.now E.outcome lists
-            → OnOk result ((j k : ℕ) → steps ≤ j
-            → steps_for (length self.now.nodes.now) (view instance.now) steps ≤ k
-            → Takes (λ s. KeywordEvaluates
-            (Reports (schemas_of E.outcome self.now.nodes.now) lists k)
-            (Evaluates (schemas_of E.outcome self.now.nodes.now)
-            (Reports (schemas_of E.outcome self.now.nodes.now) lists k) s j)
-            (keywords_of E.outcome beside.now) (view instance.now) s
-            (ruled_of E.outcome ruled.now)) left.old.items left.new.items) }
-    {
-        for target in &self.spans(alloc, beside, ruled, steps, instance)? {
-            self.take_by_target(alloc, target, steps, instance, left)?;
-        }
-        Ok(())
-    }
-
-    // Takes from what is left a target, or what its schema evaluates of the instance itself.
-    #[cycle(accepts)]
-    fn take_by_target(
-        &self,
-        alloc: Global,
-        target: &Target<'_>,
-        steps: usize,
-        instance: &Value,
-        left: &mut Vec<Child<'_>>,
-    ) -> Result<(), AllocError>
-        requires ready { IsReady E.outcome (MayTest T.Fn self.now.text_accepts.now)
-            self.now.nodes.now }
-        requires answers { (lists : Lists)
-            × Tests T.Fn self.now.text_accepts.now E.outcome lists }
-        requires few { steps ≤ length self.now.nodes.now }
-        requires end { EndsHere (schemas_of E.outcome self.now.nodes.now) steps
-            (view instance.now) (target_of target.now) }
-        ensures { (lists : Lists) → Tests T.Fn self.now.text_accepts.now E.outcome lists
-            → OnOk result ((j k : ℕ) → steps ≤ j
-            → steps_for (length self.now.nodes.now) (view instance.now) steps ≤ k
-            → Takes (λ s. TargetEvaluates (Evaluates (schemas_of E.outcome self.now.nodes.now)
-            (Reports (schemas_of E.outcome self.now.nodes.now) lists k) s j) s
-            (target_of target.now)) left.old.items left.new.items) }
-    {
-        match target.inside {
-            Some(step) => {
-                take_at(step, left);
-                Ok(())
-            }
-            None => self.take_by_schema(alloc, target.schema, steps, instance, left),
-        }
-    }
-
-    // Takes from what is left what the schema of a number evaluates.
-    #[cycle(accepts)]
-    fn take_by_schema(
-        &self,
-        alloc: Global,
-        number: usize,
-        steps: usize,
-        instance: &Value,
-        left: &mut Vec<Child<'_>>,
-    ) -> Result<(), AllocError>
-        requires ready { IsReady E.outcome (MayTest T.Fn self.now.text_accepts.now)
-            self.now.nodes.now }
-        requires answers { (lists : Lists)
-            × Tests T.Fn self.now.text_accepts.now E.outcome lists }
-        requires few { steps ≤ length self.now.nodes.now }
-        requires end { ends (schemas_of E.outcome self.now.nodes.now) steps number ≡ true }
-        ensures { (lists : Lists) → Tests T.Fn self.now.text_accepts.now E.outcome lists
-            → OnOk result ((j k : ℕ) → steps ≤ j
-            → steps_for (length self.now.nodes.now) (view instance.now) steps ≤ k
-            → Takes (λ s. Evaluates (schemas_of E.outcome self.now.nodes.now)
-            (Reports (schemas_of E.outcome self.now.nodes.now) lists k) s j number
-            (view instance.now)) left.old.items left.new.items) }
-    {
-        let Body::Keywords(keywords) = &self.nodes[number].body else {
-            return Ok(());
-        };
-        for keyword in keywords {
-            self.take_by_keyword(alloc, keywords, keyword, steps - 1, instance, left)?;
-        }
-        Ok(())
-    }
-
-    #[cycle(accepts)]
-    fn take_by_keyword(
-        &self,
-        alloc: Global,
-        beside: &[Keyword<E>],
-        keyword: &Keyword<E>,
-        steps: usize,
-        instance: &Value,
-        left: &mut Vec<Child<'_>>,
-    ) -> Result<(), AllocError>
-        requires ready { IsReady E.outcome (MayTest T.Fn self.now.text_accepts.now)
-            self.now.nodes.now }
-        requires answers { (lists : Lists)
-            × Tests T.Fn self.now.text_accepts.now E.outcome lists }
-        requires few { steps ≤ length self.now.nodes.now }
-        requires this { IsKeywordReady E.outcome (MayTest T.Fn self.now.text_accepts.now)
-            (length self.now.nodes.now) keyword.now }
-        requires others { AllByRecursion (IsKeywordReady E.outcome
-            (MayTest T.Fn self.now.text_accepts.now) (length self.now.nodes.now)) beside.now }
-        requires end { list_all (ends (schemas_of E.outcome self.now.nodes.now) steps)
-            (in_place (keyword_of E.outcome keyword.now)) ≡ true }
-        ensures { (lists : Lists) → Tests T.Fn self.now.text_accepts.now E.outcome lists
-            → OnOk result ((j k : ℕ) → steps ≤ j
-            → steps_for (length self.now.nodes.now) (view instance.now) steps ≤ k
-            → Takes (λ s. KeywordEvaluates
-            (Reports (schemas_of E.outcome self.now.nodes.now) lists k)
-            (Evaluates (schemas_of E.outcome self.now.nodes.now)
-            (Reports (schemas_of E.outcome self.now.nodes.now) lists k) s j)
-            (keywords_of E.outcome beside.now) (view instance.now) s
-            (keyword_of E.outcome keyword.now)) left.old.items left.new.items) }
-    {
-        let Keyword::Rule(ruled) = keyword else {
-            return Ok(());
-        };
-        match ruled.rule {
-            Rule::Unevaluated(part) => {
-                take_part(part, left);
-                Ok(())
-            }
-            _ => self.take_evaluated(alloc, beside, ruled, steps, instance, left),
-        }
-    }
-
-    // The targets of a keyword that count for what is evaluated.
-    #[cycle(accepts)]
-    fn spans<'a>(
-        &self,
-        alloc: Global,
-        beside: &[Keyword<E>],
-        ruled: &'a Ruled<E>,
-        steps: usize,
-        instance: &'a Value,
-    ) -> Result<Vec<Target<'a>>, AllocError>
-        requires ready { IsReady E.outcome (MayTest T.Fn self.now.text_accepts.now)
-            self.now.nodes.now }
-        requires answers { (lists : Lists)
-            × Tests T.Fn self.now.text_accepts.now E.outcome lists }
-        requires few { steps ≤ length self.now.nodes.now }
-        requires this { IsRuledReady E.outcome (MayTest T.Fn self.now.text_accepts.now)
-            (length self.now.nodes.now) ruled.now }
-        requires others { AllByRecursion (IsKeywordReady E.outcome
-            (MayTest T.Fn self.now.text_accepts.now) (length self.now.nodes.now)) beside.now }
-        requires end { list_all (ends (schemas_of E.outcome self.now.nodes.now) steps)
-            (in_place (ruled_of E.outcome ruled.now)) ≡ true }
-        ensures { (lists : Lists) → Tests T.Fn self.now.text_accepts.now E.outcome lists
-            → IfOk result (λ found. (k : ℕ)
-            → steps_for (length self.now.nodes.now) (view instance.now) steps ≤ k
-            → AreSpans (Reports (schemas_of E.outcome self.now.nodes.now) lists k)
-            (keywords_of E.outcome beside.now) (ruled_of E.outcome ruled.now)
-            (view instance.now) (targets_of found.items)) }
-    {
-        let verdicts = self.verdicts(alloc, ruled, steps, instance)?;
-        if ruled.rule.counts_nothing() {
-            return Ok(Vec::new(alloc));
-        }
-        let tested = tested(alloc, &ruled.rule, &ruled.branches, instance)?;
-        let mut spans = valid_of(alloc, tested, &verdicts)?;
-        spans.append(&mut self.applied(alloc, beside, ruled, instance, &verdicts)?)?;
-        Ok(spans)
     }
 
     // Whether each value that a keyword tests has no errors.

@@ -1,5 +1,5 @@
 -- Errors as the code has them.
-use Rattle.std.specs.Prelude.{◌≡◌, ◌++◌, ◌∷◌, ℕ, List, [], map, string_bytes, Result, Ok, Err}
+use Rattle.std.specs.Prelude.{◌≡◌, ◌++◌, ◌∷◌, List, [], map, string_bytes, Result, Ok, Err}
 use Rattle.serde_json.specs.View.{number_view, view}
 use Rattle.neldrafi_schema.specs.declared.error.ErrorKind.{ErrorKind}
 use Rattle.neldrafi_schema.specs.declared.error.ErrorKind.TheVariants as kind

@@ -1,4 +1,4 @@
-//! Values and schemas as deep as JSON is read.
+//! Values and schemas as deep as JSON is read, and with many members.
 
 use super::answers::is_answered;
 use neldrafi_schema::Config;
@@ -32,6 +32,44 @@ fn deep_values(rt: HostRuntime) -> Result<(), Fail> {
     let document = nested(alloc, r#"{"not":"#, "false", 125)?;
     if !is_answered(alloc, &config, document.as_str(), "5", &[])? {
         return Err(Fail::new("a deep document"));
+    }
+    Ok(())
+}
+
+// An object of so many members, with numbers for names and this value.
+fn wide(alloc: Global, value: &str, members: u32) -> Result<String, AllocError> {
+    let mut wide = String::from_str(alloc, "{")?;
+    for number in 0..members {
+        let comma = if number == 0 { "" } else { "," };
+        wide.push_str(format!(in alloc; "{comma}\"{number}\":{value}")?.as_str())?;
+    }
+    wide.push_str("}")?;
+    Ok(wide)
+}
+
+// An instance that has each of many properties, and one that has a member more.
+#[test]
+fn many_members(rt: HostRuntime) -> Result<(), Fail> {
+    let (alloc, config) = (rt.alloc(), Config::new(&NoPatterns));
+    let properties = wide(alloc, r#"{"type":"integer"}"#, 1_000)?;
+    let document = format!(in alloc;
+        "{{\"additionalProperties\":false,\"properties\":{properties}}}"
+    )?;
+    let instance = wide(alloc, "5", 1_000)?;
+    if !is_answered(alloc, &config, document.as_str(), instance.as_str(), &[])? {
+        return Err(Fail::new("1,000 members"));
+    }
+    let instance = wide(alloc, "5", 1_001)?;
+    let error =
+        "Additional properties are not allowed ('1000' was unexpected) at '' by '/additionalProperties' ('/additionalProperties')";
+    if !is_answered(
+        alloc,
+        &config,
+        document.as_str(),
+        instance.as_str(),
+        &[error],
+    )? {
+        return Err(Fail::new("1,001 members"));
     }
     Ok(())
 }

@@ -1,4 +1,3 @@
-use Rattle.serde_json.specs.View.{view}
 use Rattle.neldrafi_schema.specs.Settings.{config_settings}
 use Rattle.neldrafi_schema.specs.machine.Places.{documents_of}
 use Rattle.neldrafi_schema.proofs.Readings.{ReadDocument}

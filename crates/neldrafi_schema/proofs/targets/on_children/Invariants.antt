@@ -1,7 +1,7 @@
 use Rattle.std.proofs.Common.{◌≡◌, ◌++◌, drop}
-use Rattle.std.specs.List.{filter, flat_map}
+use Rattle.std.specs.List.{flat_map}
 use Rattle.serde_json.specs.View.{view}
-use Rattle.neldrafi_schema.specs.Rules.{is_present, on_child, on_itself}
+use Rattle.neldrafi_schema.specs.Rules.{on_child}
 use Rattle.neldrafi_schema.specs.machine.Compiled.{branches_of, targets_of}
 use Rattle.neldrafi_schema.proofs.targets.on_children.Given as goal
 

@@ -1,7 +1,6 @@
 use Rattle.std.proofs.Common.{◌≡◌, ◌++◌, drop}
-use Rattle.std.specs.List.{filter, flat_map}
 use Rattle.serde_json.specs.View.{view}
-use Rattle.neldrafi_schema.specs.Rules.{is_present, on_child, on_itself}
+use Rattle.neldrafi_schema.specs.Rules.{on_itself}
 use Rattle.neldrafi_schema.specs.machine.Compiled.{branches_of, targets_of}
 use Rattle.neldrafi_schema.proofs.targets.on_itself.Given as goal
 

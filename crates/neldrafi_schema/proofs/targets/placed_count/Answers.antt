@@ -1,4 +1,4 @@
-use Rattle.std.proofs.Common.{◌≡◌, ◌∙◌, ◌+◌, ap, drop, sym}
+use Rattle.std.proofs.Common.{◌∙◌, ◌+◌, ap, drop, sym}
 use Rattle.std.specs.Prelude.{unwrap_or}
 use Rattle.neldrafi_schema.specs.Rules.{placed_count}
 use Rattle.neldrafi_schema.specs.machine.Compiled.{keywords_of}

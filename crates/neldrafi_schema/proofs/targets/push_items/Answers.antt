@@ -1,4 +1,4 @@
-use Rattle.std.proofs.Common.{arith, rules}
+use Rattle.std.proofs.Common.{arith}
 use Rattle.std.proofs.lemmas.Grind.{common_steps}
 use Rattle.neldrafi_schema.specs.machine.Compiled.{branch_of}
 use Rattle.neldrafi_schema.proofs.Items.{item_kept, item_passed}

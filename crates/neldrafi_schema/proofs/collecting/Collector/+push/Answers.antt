@@ -1,13 +1,13 @@
-use Rattle.std.proofs.Common.{rules, ◌≡◌, ◌∙◌, ◌<◌, ◌≤◌, ◌-◌, le_refl, length, arith, ap, map, refl, sym, subst, string_bytes}
+use Rattle.std.proofs.Common.{rules, ◌∙◌, ◌≤◌, ◌-◌, le_refl, length, arith, ap, map, sym, subst, string_bytes}
 use borrow.Author.Rules.{scaled_fits≤}
 use Rattle.std.proofs.lemmas.Result.{on_ok_weaker}
 use Rattle.serde_json.specs.View.{view}
 use Rattle.strkw_keywords.specs.Validators.{assertions_of}
 use Rattle.neldrafi_schema.specs.Errors.{of_text}
-use Rattle.neldrafi_schema.specs.Meaning.{TextReports, error_of, site_of}
+use Rattle.neldrafi_schema.specs.Meaning.{TextReports, error_of}
 use Rattle.neldrafi_schema.specs.Refusals.{is_in_place}
 use Rattle.neldrafi_schema.specs.machine.Closures.{MayFind, MayTest}
-use Rattle.neldrafi_schema.specs.machine.Compiled.{branches_of, keywords_of, rule_of, ruled_of, schemas_of, seen_data, target_of, targets_of}
+use Rattle.neldrafi_schema.specs.machine.Compiled.{branches_of, keywords_of, rule_of, ruled_of, schemas_of, targets_of}
 use Rattle.neldrafi_schema.specs.machine.Found.{kinds_of}
 use Rattle.neldrafi_schema.specs.machine.Left.{AreFindings}
 use Rattle.neldrafi_schema.specs.machine.Ready.{IsRuledReady, steps_for}

@@ -1,27 +1,37 @@
-use Rattle.std.proofs.Common.{rules, ◌≡◌, ◌↔◌, ◌∙◌, ◌<◌, ◌≤◌, ◌-◌, le_refl, length, map, arith, Some, ap, sym, subst, refl, [], ◌++◌, append-nil, true, false, IsTrue, string_bytes}
+use Rattle.std.proofs.Common.{rules, drop, ◌≡◌, ◌↔◌, ◌∙◌, ◌<◌, ◌≤◌, ◌-◌, le_refl, length, arith, None, Some, ap, sym, subst, refl, [], ◌++◌, append-nil, true, false, IsTrue, string_bytes}
 use borrow.Author.Rules.{scaled_fits≤}
 use Rattle.std.proofs.lemmas.List.{length-map, map-append}
 use Rattle.std.proofs.lemmas.Result.{IfOk-weaker, on_ok_weaker}
 use Rattle.std.specs.List.{flat_map}
 use Rattle.std.specs.Prelude.{option_map}
-use Rattle.serde_json.specs.View.{view}
+use Rattle.std.proofs.lemmas.Grind.{common_steps}
+use Rattle.serde_json.specs.Data.{depth}
+use Rattle.serde_json.specs.Find.{as_array}
+use Rattle.serde_json.specs.View.{items_view, view}
 use Rattle.strkw_keywords.specs.Validators.{assertions_of}
-use Rattle.neldrafi_schema.specs.Meaning.{AreLeft, AreVerdicts, BesideEvaluates, EachReports, Evaluates, KeywordEvaluates, OneOf, TargetEvaluates, TextReports, root_site, site_of}
+use Rattle.neldrafi_schema.specs.Meaning.{AreLeft, AreVerdicts, BesideEvaluates, EachReports, Evaluates, KeywordEvaluates, Reports, TargetEvaluates, TextReports, root_site, site_of}
 use Rattle.neldrafi_schema.specs.Refusals.{ends, is_in_place}
-use Rattle.neldrafi_schema.specs.Rules.{applied, children, counts_nothing, kinds, left_kinds, on_each, part_of, path_of as path_to, tested, valid_of}
+use Rattle.neldrafi_schema.specs.Rules.{applied, child_at, children, counts_nothing, kinds, left_kinds, on_child, on_each, on_items, part_of, path_of as path_to, placed_items, tested, valid_of}
 use Rattle.neldrafi_schema.specs.Schemas.{rule}
 use Rattle.neldrafi_schema.specs.machine.Closures.{MayTest}
-use Rattle.neldrafi_schema.specs.machine.Compiled.{branches_of, children_of, keyword_of, keywords_of, rule_of, ruled_of, schema_of, schemas_of, seen_data, step_of, target_of, targets_of}
+use Rattle.neldrafi_schema.specs.machine.Compiled.{branch_of, branches_of, children_of, keyword_of, keywords_of, rule_of, ruled_of, schema_of, schemas_of, step_of, target_of, targets_of}
+use Rattle.neldrafi_schema.specs.declared.conditions.Choice.TheVariants.{Leads}
+use Rattle.neldrafi_schema.specs.machine.Conditions.{Ends, Means}
 use Rattle.neldrafi_schema.specs.machine.Found.{kind_of, kinds_of}
 use Rattle.neldrafi_schema.specs.machine.Left.{AreFindings, AreSpans}
 use Rattle.neldrafi_schema.specs.machine.Ready.{IsKeywordReady, IsRuledReady, steps_for}
 use Rattle.neldrafi_schema.proofs.Endings.{ends_inside, ends_some, keyword_end}
 use Rattle.neldrafi_schema.proofs.Entering.{span_ends}
 use Rattle.neldrafi_schema.proofs.Lists.{all_at, drop_past, empty_by, not_empty_by}
+use Rattle.neldrafi_schema.proofs.Plain.{child_passes, child_stops, no_child, none_by, other_items_report, placed_report, plain_reports, properties_report}
+use Rattle.neldrafi_schema.proofs.Depth.{child_depth, fewer_steps}
+use Rattle.neldrafi_schema.proofs.Each.{all_items, branch_passes, branch_stops, item_depth, item_passes, item_skipped, item_stops, no_items, none_from}
+use Rattle.neldrafi_schema.proofs.Items.{array_items, no_array_items}
 use Rattle.neldrafi_schema.proofs.Taken.{beside_left, inside_left, itself_left, keywords_left, left_found, no_keywords_left, not_beside, own_found, part_left, some_spanned, speaks_of_none, text_beside, text_left}
 use Rattle.neldrafi_schema.proofs.Taking.{keyword_left, left_all_seen, left_more, left_none}
 use Rattle.neldrafi_schema.proofs.Visited.{holds, no_kinds, no_targets, nothing_mapped, refutes, rule_passes}
 use Rattle.neldrafi_schema.proofs.Visiting.{Next, Within, always_accepts, few_below, goes_on, goes_on_target, is_body, keyword_ends, keyword_ready, keywords_accept, keywords_below, keywords_ready, keywords_refuse, never_accepts, next_found, next_tested, stops, stops_target, verdict_more}
+use Rattle.neldrafi_schema.proofs.validity.Checker.+accepts.Goals.{children_accept-in-Some+in_ok-accepts+else-not-branch, children_accept-in_default, items_accept_by-then-place-from+in_ok-accepts+else-not-branch, items_accept_by-else-place-from}
 use Rattle.neldrafi_schema.proofs.validity.Checker.+accepts.Goals as goal
 
 pub accepts-offset_bounds-self-number : goal.accepts-offset_bounds-self-number
@@ -46,8 +56,22 @@ accepts-returns-in-Never g t c = λ lists tests.
     never_accepts g.E.RegexEngine.outcome c.args.self.now.nodes.now c.args.number c.args.steps c.index-self-number.result c.index-self-number.is c.requires.end
     c.in-Never.is lists (view c.args.instance.now)
 
-pub accepts-keyword_accepts-requires : goal.accepts-keyword_accepts-requires
-accepts-keyword_accepts-requires g t c κs within =
+pub accepts-condition-requires : goal.accepts-condition-requires
+accepts-condition-requires g t c κs within =
+    let outcome = g.E.RegexEngine.outcome in
+    let nodes = c.args.self.now.nodes.now in
+    let some = ends_some (schemas_of outcome nodes) c.args.steps c.args.number c.requires.end in
+    let few : c.args.steps - 1 ≤ length nodes = omega (arith, c.requires.few) in
+    let ends = keywords_below outcome nodes c.args.number c.args.steps c.index-self-number.result c.index-self-number.is c.requires.end
+    c.in-Keywords.keywords c.deref.result.now c.in-Keywords.is c.deref.ensures.value in
+    (omega (arith, c.decreases), (within.0, (within.1, (c.requires.ready, (c.requires.answers, (few, ends))))))
+
+pub accepts-overflow_sub-steps-in-loop-keyword : goal.accepts-overflow_sub-steps-in-loop-keyword
+accepts-overflow_sub-steps-in-loop-keyword g t c = let some =
+    ends_some (schemas_of g.E.RegexEngine.outcome c.args.self.now.nodes.now) c.args.steps c.args.number c.requires.end in omega arith
+
+pub accepts-conditional_accepts-requires : goal.accepts-conditional_accepts-requires
+accepts-conditional_accepts-requires g t c κs within =
     let outcome = g.E.RegexEngine.outcome in
     let nodes = c.args.self.now.nodes.now in
     let node = c.index-self-number.result in
@@ -59,13 +83,13 @@ accepts-keyword_accepts-requires g t c κs within =
     c.in-Keywords.keywords items c.in-Keywords.is c.deref-keyword-items.ensures.value
     MayCall c.loop-keyword.keyword-index c.keyword-item.result c.loop-keyword-test.true c.keyword-item.is c.requires.ready.each in
     let others = keywords_ready outcome nodes c.args.number c.args.steps node c.index-self-number.is c.requires.end
-    c.in-Keywords.keywords c.deref.result.now c.in-Keywords.is c.deref.ensures.value MayCall c.requires.ready.each in
+    c.in-Keywords.keywords c.deref-in-loop-keyword.result.now c.in-Keywords.is c.deref-in-loop-keyword.ensures.value MayCall c.requires.ready.each in
     let ends = keywords_below outcome nodes c.args.number c.args.steps node c.index-self-number.is c.requires.end
-    c.in-Keywords.keywords c.deref.result.now c.in-Keywords.is c.deref.ensures.value in
+    c.in-Keywords.keywords c.deref-in-loop-keyword.result.now c.in-Keywords.is c.deref-in-loop-keyword.ensures.value in
     let end = keyword_ends outcome nodes c.args.number c.args.steps node c.index-self-number.is c.requires.end
     c.in-Keywords.keywords items c.in-Keywords.is c.deref-keyword-items.ensures.value
     c.loop-keyword.keyword-index c.keyword-item.result c.loop-keyword-test.true c.keyword-item.is in
-    (omega (arith, c.decreases), (within.0, (within.1, (c.requires.ready, (c.requires.answers, (few, (this, (others, (ends, end)))))))))
+    (omega (arith, c.decreases), (within.0, (within.1, (c.requires.ready, (c.requires.answers, (few, (this, (others, (ends, (end, c.in_ok-condition.ensures))))))))))
 
 pub accepts-returns-then-not-branch : goal.accepts-returns-then-not-branch
 accepts-returns-then-not-branch g t c = λ lists tests k site h.
@@ -75,19 +99,19 @@ accepts-returns-then-not-branch g t c = λ lists tests k site h.
     let items = c.deref-keyword-items.result.now in
     keywords_refuse outcome nodes c.args.number c.args.steps node c.index-self-number.is c.requires.end
     c.in-Keywords.keywords items c.in-Keywords.is c.deref-keyword-items.ensures.value lists (view c.args.instance.now) k site h
-    (λ j less. stops outcome nodes (Within outcome nodes lists j) lists node.location (view c.args.instance.now) site items c.deref.result.now
+    (λ j less. stops outcome nodes (Within outcome nodes lists j) lists node.location (view c.args.instance.now) site items c.deref-in-loop-keyword.result.now
     c.loop-keyword.keyword-index c.keyword-item.result c.loop-keyword-test.true c.keyword-item.is
-    (c.deref.ensures.value ∙ sym c.deref-keyword-items.ensures.value) c.in_ok-keyword_accepts.field-0
-    (c.in_ok-keyword_accepts.ensures lists tests j node.location site less) c.if-not-branch.true (c.loop-keyword.invariant lists tests j node.location site less))
+    (c.deref-in-loop-keyword.ensures.value ∙ sym c.deref-keyword-items.ensures.value) c.in_ok-conditional_accepts.field-0
+    (c.in_ok-conditional_accepts.ensures lists tests j node.location site less) c.if-not-branch.true (c.loop-keyword.invariant lists tests j node.location site less))
 
 pub accepts-loop-keyword-preserved : goal.accepts-loop-keyword-preserved
 accepts-loop-keyword-preserved g t c = λ lists tests k location site h.
     let outcome = g.E.RegexEngine.outcome in
     let nodes = c.args.self.now.nodes.now in
-    goes_on outcome nodes (Within outcome nodes lists k) lists location (view c.args.instance.now) site c.deref-keyword-items.result.now c.deref.result.now
+    goes_on outcome nodes (Within outcome nodes lists k) lists location (view c.args.instance.now) site c.deref-keyword-items.result.now c.deref-in-loop-keyword.result.now
     c.loop-keyword.keyword-index c.keyword-item.result c.loop-keyword-test.true c.keyword-item.is
-    (c.deref.ensures.value ∙ sym c.deref-keyword-items.ensures.value) c.in_ok-keyword_accepts.field-0
-    (c.in_ok-keyword_accepts.ensures lists tests k location site h) c.if-not-branch.false (c.loop-keyword.invariant lists tests k location site h)
+    (c.deref-in-loop-keyword.ensures.value ∙ sym c.deref-keyword-items.ensures.value) c.in_ok-conditional_accepts.field-0
+    (c.in_ok-conditional_accepts.ensures lists tests k location site h) c.if-not-branch.false (c.loop-keyword.invariant lists tests k location site h)
 
 pub accepts-returns : goal.accepts-returns
 accepts-returns g t c = λ lists tests k site h.
@@ -98,6 +122,68 @@ accepts-returns g t c = λ lists tests k site h.
     keywords_accept outcome nodes c.args.number c.args.steps node c.index-self-number.is c.requires.end
     c.in-Keywords.keywords items c.in-Keywords.is c.deref-keyword-items.ensures.value lists (view c.args.instance.now) k site h
     (λ j less. (c.loop-keyword.invariant lists tests j node.location site less).1 (rw (drop_past items c.loop-keyword.keyword-index c.loop-keyword-test.false) refl))
+
+-- ---- the verdict on `if`
+
+pub condition-accepts-requires : goal.condition-accepts-requires
+condition-accepts-requires g t c κs within =
+    let outcome = g.E.RegexEngine.outcome in
+    let end = ends (schemas_of outcome c.args.self.now.nodes.now) c.args.steps in (
+      omega (arith, c.decreases),
+      (
+        within.0,
+        (
+          within.1,
+          (
+            c.requires.ready,
+            (
+              c.requires.answers,
+              (
+                c.requires.few,
+                c.in-Some.ensures outcome end
+                    (keyword_end (keyword_of outcome) end c.args.keywords.now c.loop-keyword.keyword-index c.keyword-item.result c.requires.ends c.loop-keyword-test.true c.keyword-item.is),
+              ),
+            ),
+          ),
+        ),
+      ),
+    )
+
+pub condition-returns-in-Some : goal.condition-returns-in-Some
+condition-returns-in-Some g t c = λ lists tests k h site. c.in_ok-valid.ensures lists tests k site h
+
+pub conditional_accepts-keyword_accepts-requires : goal.conditional_accepts-keyword_accepts-requires
+conditional_accepts-keyword_accepts-requires g t c κs within =
+    (omega (arith, c.decreases), (within.0, (within.1, (c.requires.ready, (c.requires.answers, (c.requires.few, (c.requires.this, (c.requires.others, (c.requires.ends, c.requires.end)))))))))
+
+pub conditional_accepts-accepts-requires : goal.conditional_accepts-accepts-requires
+conditional_accepts-accepts-requires g t c κs within =
+    let outcome = g.E.RegexEngine.outcome in
+    let end = ends (schemas_of outcome c.args.self.now.nodes.now) c.args.steps in
+    let leads : Ends end (Leads c.in-Leads.number) = subst (Ends end) c.in-Leads.is (c.choice_of.ensures.end outcome end c.requires.end) in
+    (omega (arith, c.decreases), (within.0, (within.1, (c.requires.ready, (c.requires.answers, (c.requires.few, leads))))))
+
+pub conditional_accepts-returns-in-Passes : goal.conditional_accepts-returns-in-Passes
+conditional_accepts-returns-in-Passes g t c = λ lists tests k location site h.
+    let outcome = g.E.RegexEngine.outcome in
+    let schemas = schemas_of outcome c.args.self.now.nodes.now in
+    let beside = keywords_of outcome c.args.beside.now in
+    let key = keyword_of outcome c.args.conditional.now.keyword.now in
+    let d = view c.args.instance.now in
+    let means = subst (Means schemas (Reports schemas lists k) lists location beside key d site) c.in-Passes.is
+    (c.choice_of.ensures.means outcome schemas lists k location beside d site (c.requires.condition lists tests k h)) in
+    holds _ true refl means
+
+pub conditional_accepts-returns-in-Leads : goal.conditional_accepts-returns-in-Leads
+conditional_accepts-returns-in-Leads g t c = λ lists tests. IfOk-weaker c.accepts.result _ _ (λ b p k location site h.
+    let outcome = g.E.RegexEngine.outcome in
+    let schemas = schemas_of outcome c.args.self.now.nodes.now in
+    let beside = keywords_of outcome c.args.beside.now in
+    let key = keyword_of outcome c.args.conditional.now.keyword.now in
+    let d = view c.args.instance.now in
+    let means = subst (Means schemas (Reports schemas lists k) lists location beside key d site) c.in-Leads.is
+    (c.choice_of.ensures.means outcome schemas lists k location beside d site (c.requires.condition lists tests k h)) in
+    means b (λ at. p k at h)) (c.accepts.ensures lists tests)
 
 pub keyword_accepts-returns-in-Text : goal.keyword_accepts-returns-in-Text
 keyword_accepts-returns-in-Text g t c = λ lists tests. IfOk-weaker c.text_accepts.result _ _
@@ -112,12 +198,211 @@ keyword_accepts-rule_accepts-requires g t c κs within =
     let this : IsRuledReady outcome MayCall (length c.args.self.now.nodes.now) c.in-Rule.ruled = rw c.in-Rule.is at c.requires.this in
     (omega (arith, c.decreases), (within.0, (within.1, (c.requires.ready, (c.requires.answers, (c.requires.few, (this, (c.requires.others, (c.requires.ends, rw c.in-Rule.is at c.requires.end)))))))))
 
-pub rule_accepts-findings-requires : goal.rule_accepts-findings-requires
-rule_accepts-findings-requires g t c κs within =
+pub found_accepts-findings-requires : goal.found_accepts-findings-requires
+found_accepts-findings-requires g t c κs within =
     (omega (arith, c.decreases), (within.0, (within.1, (c.requires.ready, (c.requires.answers, (c.requires.few, (c.requires.this, (c.requires.others, (c.requires.ends, c.requires.end)))))))))
 
-pub rule_accepts-returns-then-not-is_empty : goal.rule_accepts-returns-then-not-is_empty
-rule_accepts-returns-then-not-is_empty g t c = λ lists tests k location site h.
+pub rule_accepts-returns-in-Some : goal.rule_accepts-returns-in-Some
+rule_accepts-returns-in-Some g t c = λ lists tests k location site h.
+    let outcome = g.E.RegexEngine.outcome in
+    let nodes = c.args.self.now.nodes.now in
+    let ruled = c.args.ruled.now in
+    plain_reports (schemas_of outcome nodes) (Within outcome nodes lists k) lists location (keywords_of outcome c.args.beside.now) (string_bytes ruled.name)
+    (rule_of outcome ruled.rule) (branches_of ruled.branches.items) (view c.args.instance.now) site c.in-Some.holds (c.in-Some.ensures outcome)
+
+pub rule_accepts-found_accepts-requires : goal.rule_accepts-found_accepts-requires
+rule_accepts-found_accepts-requires g t c κs within =
+    (omega (arith, c.decreases), (within.0, (within.1, (c.requires.ready, (c.requires.answers, (c.requires.few, (c.requires.this, (c.requires.others, (c.requires.ends, c.requires.end)))))))))
+
+pub rule_accepts-children_accept-requires : goal.rule_accepts-children_accept-requires
+rule_accepts-children_accept-requires g t c κs within =
+    (omega (arith, c.decreases), (within.0, (within.1, (c.requires.ready, (c.requires.answers, rw c.deref.ensures.value c.requires.this.1)))))
+
+pub rule_accepts-returns-in-Properties : goal.rule_accepts-returns-in-Properties
+rule_accepts-returns-in-Properties g t c = λ lists tests. IfOk-weaker c.children_accept.result _ _ (λ b says k location site h.
+    let outcome = g.E.RegexEngine.outcome in
+    let nodes = c.args.self.now.nodes.now in
+    let ruled = c.args.ruled.now in
+    let d = view c.args.instance.now in
+    let word = string_bytes ruled.name in
+    let below = Within outcome nodes lists k in
+    let reports = subst (λ l. IsTrue b ↔ EachReports below site word (flat_map (on_child d) (branches_of l)) []) c.deref.ensures.value (says k site word (omega (arith, h))) in
+    rw c.in-Properties.is (properties_report (schemas_of outcome nodes) below lists location (keywords_of outcome c.args.beside.now) word (branches_of ruled.branches.items) d site b reports))
+    (c.children_accept.ensures lists tests)
+
+pub rule_accepts-returns-in-Placed : goal.rule_accepts-returns-in-Placed
+rule_accepts-returns-in-Placed g t c = λ lists tests. IfOk-weaker c.children_accept-in-Placed.result _ _ (λ b says k location site h.
+    let outcome = g.E.RegexEngine.outcome in
+    let nodes = c.args.self.now.nodes.now in
+    let ruled = c.args.ruled.now in
+    let d = view c.args.instance.now in
+    let word = string_bytes ruled.name in
+    let below = Within outcome nodes lists k in
+    let reports = subst (λ l. IsTrue b ↔ EachReports below site word (flat_map (on_child d) (branches_of l)) []) c.deref-in-Placed.ensures.value (says k site word (omega (arith, h))) in
+    rw c.in-Placed.is (placed_report (schemas_of outcome nodes) below lists location (keywords_of outcome c.args.beside.now) word (branches_of ruled.branches.items) d site b reports))
+    (c.children_accept-in-Placed.ensures lists tests)
+
+pub rule_accepts-items_accept-requires : goal.rule_accepts-items_accept-requires
+rule_accepts-items_accept-requires g t c κs within =
+    (omega (arith, c.decreases), (within.0, (within.1, (c.requires.ready, (c.requires.answers, rw c.deref-in-OtherItems.ensures.value c.requires.this.1)))))
+
+pub rule_accepts-returns-in-OtherItems : goal.rule_accepts-returns-in-OtherItems
+rule_accepts-returns-in-OtherItems g t c = λ lists tests. IfOk-weaker c.items_accept.result _ _ (λ b says k location site h.
+    let outcome = g.E.RegexEngine.outcome in
+    let nodes = c.args.self.now.nodes.now in
+    let ruled = c.args.ruled.now in
+    let d = view c.args.instance.now in
+    let word = string_bytes ruled.name in
+    let below = Within outcome nodes lists k in
+    let from = c.placed_count.result in
+    let reports = subst (λ l. IsTrue b ↔ EachReports below site word (flat_map (on_items (drop from (placed_items d))) (branches_of l)) []) c.deref-in-OtherItems.ensures.value
+    (says k site word (omega (arith, h))) in
+    rw c.in-OtherItems.is (other_items_report (schemas_of outcome nodes) below lists location (keywords_of outcome c.args.beside.now) word (branches_of ruled.branches.items) d site b
+    from (c.placed_count.ensures outcome) reports))
+    (c.items_accept.ensures lists tests)
+
+-- ---- item by item
+
+pub items_accept-items_accept_by-requires : goal.items_accept-items_accept_by-requires
+items_accept-items_accept_by-requires g t c κs within =
+    let nodes = c.args.self.now.nodes.now in
+    let inside = all_at (λ b. b.schema < length nodes) c.args.branches.now c.loop-branch.branch-index c.branch-item.result c.requires.there c.loop-branch-test.true c.branch-item.is in
+    (omega (arith, c.decreases), (within.0, (within.1, (c.requires.ready, (c.requires.answers, inside)))))
+
+pub items_accept-loop-branch-init : goal.items_accept-loop-branch-init
+items_accept-loop-branch-init g t c = λ lists tests k site word h. (λ x. x, λ x. x)
+
+pub items_accept-loop-branch-preserved : goal.items_accept-loop-branch-preserved
+items_accept-loop-branch-preserved g t c = λ lists tests k site word h.
+    branch_passes (Within g.E.RegexEngine.outcome c.args.self.now.nodes.now lists k) site word (drop c.args.from (placed_items (view c.args.instance.now))) c.args.branches.now
+    c.loop-branch.branch-index c.branch-item.result c.loop-branch-test.true c.branch-item.is c.in_ok-items_accept_by.field-0
+    (c.in_ok-items_accept_by.ensures lists tests k site word h) c.if-not-branch.false (c.loop-branch.invariant lists tests k site word h)
+
+pub items_accept-returns-then-not-branch : goal.items_accept-returns-then-not-branch
+items_accept-returns-then-not-branch g t c = λ lists tests k site word h. refutes _ false refl (λ reported. absurd (
+    branch_stops (Within g.E.RegexEngine.outcome c.args.self.now.nodes.now lists k) site word (drop c.args.from (placed_items (view c.args.instance.now))) c.args.branches.now
+    c.loop-branch.branch-index c.branch-item.result c.loop-branch-test.true c.branch-item.is c.in_ok-items_accept_by.field-0
+    (c.in_ok-items_accept_by.ensures lists tests k site word h) c.if-not-branch.true (c.loop-branch.invariant lists tests k site word h) reported))
+
+pub items_accept-returns : goal.items_accept-returns
+items_accept-returns g t c = λ lists tests k site word h.
+    holds _ true refl ((c.loop-branch.invariant lists tests k site word h).1 (rw (drop_past c.args.branches.now c.loop-branch.branch-index c.loop-branch-test.false) refl))
+
+pub items_accept_by-returns-in_default : goal.items_accept_by-returns-in_default
+items_accept_by-returns-in_default g t c = λ lists tests k site word h.
+    let d = view c.args.instance.now in
+    let none : as_array d ≡ None = sym c.as_array.ensures ∙ ap (option_map (λ v. items_view v.now.items)) (none_by c.as_array.result c.in_default.not-Some) in
+    holds _ true refl (rw (no_array_items d none, no_items c.args.from) refl)
+
+pub items_accept_by-loop-place-init : goal.items_accept_by-loop-place-init
+items_accept_by-loop-place-init g t c = λ lists tests k site word h.
+    let d = view c.args.instance.now in
+    let vs = c.deref-item-items.result.now in
+    let found : as_array d ≡ Some (items_view vs) = grind (arith, common_steps) in
+    all_items (Within g.E.RegexEngine.outcome c.args.self.now.nodes.now lists k) site word d (branch_of c.args.branch.now) vs c.args.from (array_items d vs found)
+
+pub items_accept_by-accepts-requires : goal.items_accept_by-accepts-requires
+items_accept_by-accepts-requires g t c κs within =
+    let nodes = c.args.self.now.nodes.now in
+    let d = view c.args.instance.now in
+    let vs = c.deref-item-items.result.now in
+    let v = c.item-item.result in
+    let found : as_array d ≡ Some (items_view vs) = grind (arith, common_steps) in
+    let less = item_depth d vs c.loop-place.place v (array_items d vs found) c.loop-place-test.true c.item-item.is in
+    let fewer = fewer_steps (length nodes) (depth (view v)) (depth d) 0 less in
+    (omega (arith, c.decreases, fewer), (within.0, (within.1, (c.requires.ready, (c.requires.answers, (le_refl (length nodes), c.requires.ready.end c.args.branch.now.schema c.requires.there))))))
+
+pub items_accept_by-loop-place-preserved : goal.items_accept_by-loop-place-preserved
+items_accept_by-loop-place-preserved g t c = λ lists tests k site word h.
+    let nodes = c.args.self.now.nodes.now in
+    let below = Within g.E.RegexEngine.outcome nodes lists k in
+    let d = view c.args.instance.now in
+    let vs = c.deref-item-items.result.now in
+    let v = c.item-item.result in
+    let b = branch_of c.args.branch.now in
+    let found : as_array d ≡ Some (items_view vs) = grind (arith, common_steps) in
+    let less = item_depth d vs c.loop-place.place v (array_items d vs found) c.loop-place-test.true c.item-item.is in
+    let fewer = fewer_steps (length nodes) (depth (view v)) (depth d) 0 less in
+    let before = c.loop-place.invariant lists tests k site word h in elim c.if-place-from.branch [
+      | items_accept_by-then-place-from+in_ok-accepts+else-not-branch w ↦
+          item_passes below site word d b vs c.args.from c.loop-place.place v c.loop-place-test.true c.item-item.is w.if-place-from.true w.in_ok-accepts.field-0
+          (λ at. w.in_ok-accepts.ensures lists tests k at (omega (arith, fewer, h))) w.if-not-branch.false before
+      | items_accept_by-else-place-from w ↦
+          item_skipped below site word d b vs c.args.from c.loop-place.place v c.loop-place-test.true c.item-item.is w.if-place-from.false before
+    ]
+
+pub items_accept_by-returns-then-not-branch : goal.items_accept_by-returns-then-not-branch
+items_accept_by-returns-then-not-branch g t c = λ lists tests k site word h.
+    let nodes = c.args.self.now.nodes.now in
+    let below = Within g.E.RegexEngine.outcome nodes lists k in
+    let d = view c.args.instance.now in
+    let vs = c.deref-item-items.result.now in
+    let v = c.item-item.result in
+    let found : as_array d ≡ Some (items_view vs) = grind (arith, common_steps) in
+    let less = item_depth d vs c.loop-place.place v (array_items d vs found) c.loop-place-test.true c.item-item.is in
+    let fewer = fewer_steps (length nodes) (depth (view v)) (depth d) 0 less in
+    refutes _ false refl (λ reported. absurd (item_stops below site word d (branch_of c.args.branch.now) vs c.args.from c.loop-place.place v c.loop-place-test.true c.item-item.is
+    c.if-place-from.true c.in_ok-accepts.field-0 (λ at. c.in_ok-accepts.ensures lists tests k at (omega (arith, fewer, h))) c.if-not-branch.true
+    (c.loop-place.invariant lists tests k site word h) reported))
+
+pub items_accept_by-returns : goal.items_accept_by-returns
+items_accept_by-returns g t c = λ lists tests k site word h.
+    let vs = c.deref-item-items.result.now in
+    holds _ true refl ((c.loop-place.invariant lists tests k site word h).1
+    (rw (none_from (branch_of c.args.branch.now) vs c.args.from c.loop-place.place (drop_past vs c.loop-place.place c.loop-place-test.false)) refl))
+
+-- ---- child by child
+
+pub children_accept-accepts-requires : goal.children_accept-accepts-requires
+children_accept-accepts-requires g t c κs within =
+    let nodes = c.args.self.now.nodes.now in
+    let d = view c.args.instance.now in
+    let branch = c.branch-item.result in
+    let child : child_at d (branch_of branch) ≡ Some (view c.in-Some.value.now) = sym c.child_of.ensures ∙ ap (option_map (λ v. view v.now)) c.in-Some.is in
+    let fewer = fewer_steps (length nodes) (depth (view c.in-Some.value.now)) (depth d) 0 (child_depth d (branch_of branch) (view c.in-Some.value.now) child) in
+    let inside = all_at (λ b. b.schema < length nodes) c.args.branches.now c.loop-branch.branch-index branch c.requires.there c.loop-branch-test.true c.branch-item.is in
+    (omega (arith, c.decreases, fewer), (within.0, (within.1, (c.requires.ready, (c.requires.answers, (le_refl (length nodes), c.requires.ready.end branch.schema inside))))))
+
+pub children_accept-loop-branch-init : goal.children_accept-loop-branch-init
+children_accept-loop-branch-init g t c = λ lists tests k site word h. (λ x. x, λ x. x)
+
+pub children_accept-returns : goal.children_accept-returns
+children_accept-returns g t c = λ lists tests k site word h.
+    holds _ true refl ((c.loop-branch.invariant lists tests k site word h).1 (rw (drop_past c.args.branches.now c.loop-branch.branch-index c.loop-branch-test.false) refl))
+
+pub children_accept-loop-branch-preserved : goal.children_accept-loop-branch-preserved
+children_accept-loop-branch-preserved g t c = λ lists tests k site word h.
+    let nodes = c.args.self.now.nodes.now in
+    let below = Within g.E.RegexEngine.outcome nodes lists k in
+    let d = view c.args.instance.now in
+    let items = c.args.branches.now in
+    let branch = c.branch-item.result in
+    let before = c.loop-branch.invariant lists tests k site word h in elim c.match-child_of.branch [
+      | children_accept-in-Some+in_ok-accepts+else-not-branch w ↦
+          let v = view w.in-Some.value.now in
+          let child : child_at d (branch_of branch) ≡ Some v = sym c.child_of.ensures ∙ ap (option_map (λ x. view x.now)) w.in-Some.is in
+          let fewer = fewer_steps (length nodes) (depth v) (depth d) 0 (child_depth d (branch_of branch) v child) in
+          child_passes below site word d items c.loop-branch.branch-index branch c.loop-branch-test.true c.branch-item.is v child w.in_ok-accepts.field-0
+          (λ at. w.in_ok-accepts.ensures lists tests k at (omega (arith, fewer, h))) w.if-not-branch.false before
+      | children_accept-in_default w ↦
+          no_child below site word d items c.loop-branch.branch-index branch c.loop-branch-test.true c.branch-item.is
+          (sym c.child_of.ensures ∙ ap (option_map (λ x. view x.now)) (none_by c.child_of.result w.in_default.not-Some)) before
+    ]
+
+pub children_accept-returns-then-not-branch : goal.children_accept-returns-then-not-branch
+children_accept-returns-then-not-branch g t c = λ lists tests k site word h.
+    let nodes = c.args.self.now.nodes.now in
+    let below = Within g.E.RegexEngine.outcome nodes lists k in
+    let d = view c.args.instance.now in
+    let branch = c.branch-item.result in
+    let v = view c.in-Some.value.now in
+    let child : child_at d (branch_of branch) ≡ Some v = sym c.child_of.ensures ∙ ap (option_map (λ x. view x.now)) c.in-Some.is in
+    let fewer = fewer_steps (length nodes) (depth v) (depth d) 0 (child_depth d (branch_of branch) v child) in
+    refutes _ false refl (λ reported. absurd (child_stops below site word d c.args.branches.now c.loop-branch.branch-index branch c.loop-branch-test.true c.branch-item.is v child
+    c.in_ok-accepts.field-0 (λ at. c.in_ok-accepts.ensures lists tests k at (omega (arith, fewer, h))) c.if-not-branch.true (c.loop-branch.invariant lists tests k site word h) reported))
+
+pub found_accepts-returns-then-not-is_empty : goal.found_accepts-returns-then-not-is_empty
+found_accepts-returns-then-not-is_empty g t c = λ lists tests k location site h.
     let outcome = g.E.RegexEngine.outcome in
     let nodes = c.args.self.now.nodes.now in
     let below = Within outcome nodes lists k in
@@ -134,11 +419,11 @@ rule_accepts-returns-then-not-is_empty g t c = λ lists tests k location site h.
     (c.in_ok-kinds.ensures lists tests k site h) reported) in
     absurd (not_empty_by kinds _ c.is_empty.result c.is_empty.ensures c.in_ok-kinds.kinds.ok.0 c.if-not-is_empty.true none))
 
-pub rule_accepts-loop-target-init : goal.rule_accepts-loop-target-init
-rule_accepts-loop-target-init g t c = λ lists tests k site h. (λ x. x, λ x. x)
+pub found_accepts-loop-target-init : goal.found_accepts-loop-target-init
+found_accepts-loop-target-init g t c = λ lists tests k site h. (λ x. x, λ x. x)
 
-pub rule_accepts-accepts-requires : goal.rule_accepts-accepts-requires
-rule_accepts-accepts-requires g t c κs within =
+pub found_accepts-accepts-requires : goal.found_accepts-accepts-requires
+found_accepts-accepts-requires g t c κs within =
     let (lists, tests) = c.requires.answers in
     let k = steps_for (length c.args.self.now.nodes.now) (view c.args.instance.now) c.args.steps in
     let outcome = g.E.RegexEngine.outcome in
@@ -225,8 +510,8 @@ verdicts-returns g t c = λ lists tests k site word h.
     subst (λ ts. AreVerdicts below site word ts vs) same (subst (λ l. AreVerdicts below site word (targets_of items) l) (append-nil vs)
     (c.loop-target.invariant lists tests k site word h [] (rw (drop_past items c.loop-target.target-index c.loop-target-test.false) refl)))
 
-pub rule_accepts-loop-target-preserved : goal.rule_accepts-loop-target-preserved
-rule_accepts-loop-target-preserved g t c = λ lists tests k site h.
+pub found_accepts-loop-target-preserved : goal.found_accepts-loop-target-preserved
+found_accepts-loop-target-preserved g t c = λ lists tests k site h.
     let outcome = g.E.RegexEngine.outcome in
     let nodes = c.args.self.now.nodes.now in
     let below = Within outcome nodes lists k in
@@ -253,8 +538,8 @@ rule_accepts-loop-target-preserved g t c = λ lists tests k site h.
     goes_on_target below site word items c.loop-target.target-index c.target-item.result c.loop-target-test.true c.target-item.is c.in_ok-accepts.field-0 says
     c.if-not-branch.false (c.loop-target.invariant lists tests k site h)
 
-pub rule_accepts-returns-then-not-branch : goal.rule_accepts-returns-then-not-branch
-rule_accepts-returns-then-not-branch g t c = λ lists tests k location site h.
+pub found_accepts-returns-then-not-branch : goal.found_accepts-returns-then-not-branch
+found_accepts-returns-then-not-branch g t c = λ lists tests k location site h.
     let outcome = g.E.RegexEngine.outcome in
     let nodes = c.args.self.now.nodes.now in
     let below = Within outcome nodes lists k in
@@ -283,8 +568,8 @@ rule_accepts-returns-then-not-branch g t c = λ lists tests k location site h.
     c.if-not-branch.true (c.loop-target.invariant lists tests k site h)
     (no_targets (schemas_of outcome nodes) below lists location beside word r bs d site kinds (targets_of items) found reported)))
 
-pub rule_accepts-returns : goal.rule_accepts-returns
-rule_accepts-returns g t c = λ lists tests k location site h.
+pub found_accepts-returns : goal.found_accepts-returns
+found_accepts-returns g t c = λ lists tests k location site h.
     let outcome = g.E.RegexEngine.outcome in
     let nodes = c.args.self.now.nodes.now in
     let below = Within outcome nodes lists k in

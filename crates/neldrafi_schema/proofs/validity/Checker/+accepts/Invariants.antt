@@ -3,10 +3,12 @@ use Rattle.serde_json.specs.View.{view}
 use Rattle.strkw_report.specs.declared.error.Site.{Site}
 use Rattle.strkw_keywords.specs.Meanings.{Lists}
 use Rattle.neldrafi_schema.specs.Meaning.{AreLeft, AreVerdicts, BesideEvaluates, EachReports, Evaluates, KeywordEvaluates, KeywordsReport, OneOf, Reports, TargetEvaluates}
-use Rattle.neldrafi_schema.specs.Rules.{children}
+use Rattle.std.specs.List.{flat_map}
+use Rattle.neldrafi_schema.specs.Rules.{children, on_child, placed_items}
 use Rattle.neldrafi_schema.specs.machine.Closures.{Tests}
-use Rattle.neldrafi_schema.specs.machine.Compiled.{children_of, keyword_of, keywords_of, schemas_of, target_of, targets_of}
+use Rattle.neldrafi_schema.specs.machine.Compiled.{branch_of, branches_of, children_of, keyword_of, keywords_of, schemas_of, target_of, targets_of}
 use Rattle.neldrafi_schema.specs.machine.Ready.{steps_for}
+use Rattle.neldrafi_schema.proofs.Each.{AllBranches, AllItems}
 use Rattle.neldrafi_schema.proofs.validity.Checker.+accepts.Given as goal
 
 abbrev pub decreases-accepts : goal.decreases-accepts
@@ -14,6 +16,12 @@ decreases-accepts g l = 16 * steps_for (length l.self.now.nodes.now) (view l.ins
 
 abbrev pub decreases-verdicts : goal.decreases-verdicts
 decreases-verdicts g l = 16 * steps_for (length l.self.now.nodes.now) (view l.instance.now) l.steps + 1
+
+abbrev pub decreases-condition : goal.decreases-condition
+decreases-condition g l = 16 * steps_for (length l.self.now.nodes.now) (view l.instance.now) l.steps + 1
+
+abbrev pub decreases-conditional_accepts : goal.decreases-conditional_accepts
+decreases-conditional_accepts g l = 16 * steps_for (length l.self.now.nodes.now) (view l.instance.now) l.steps + 13
 
 abbrev pub decreases-take_by_schema : goal.decreases-take_by_schema
 decreases-take_by_schema g l = 16 * steps_for (length l.self.now.nodes.now) (view l.instance.now) l.steps + 1
@@ -39,11 +47,23 @@ decreases-left g l = 16 * steps_for (length l.self.now.nodes.now) (view l.instan
 abbrev pub decreases-findings : goal.decreases-findings
 decreases-findings g l = 16 * steps_for (length l.self.now.nodes.now) (view l.instance.now) l.steps + 9
 
+abbrev pub decreases-found_accepts : goal.decreases-found_accepts
+decreases-found_accepts g l = 16 * steps_for (length l.self.now.nodes.now) (view l.instance.now) l.steps + 10
+
+abbrev pub decreases-children_accept : goal.decreases-children_accept
+decreases-children_accept g l = 16 * steps_for (length l.self.now.nodes.now) (view l.instance.now) 0
+
+abbrev pub decreases-items_accept_by : goal.decreases-items_accept_by
+decreases-items_accept_by g l = 16 * steps_for (length l.self.now.nodes.now) (view l.instance.now) 0
+
+abbrev pub decreases-items_accept : goal.decreases-items_accept
+decreases-items_accept g l = 16 * steps_for (length l.self.now.nodes.now) (view l.instance.now) 0 + 1
+
 abbrev pub decreases-rule_accepts : goal.decreases-rule_accepts
-decreases-rule_accepts g l = 16 * steps_for (length l.self.now.nodes.now) (view l.instance.now) l.steps + 10
+decreases-rule_accepts g l = 16 * steps_for (length l.self.now.nodes.now) (view l.instance.now) l.steps + 11
 
 abbrev pub decreases-keyword_accepts : goal.decreases-keyword_accepts
-decreases-keyword_accepts g l = 16 * steps_for (length l.self.now.nodes.now) (view l.instance.now) l.steps + 11
+decreases-keyword_accepts g l = 16 * steps_for (length l.self.now.nodes.now) (view l.instance.now) l.steps + 12
 
 -- all keywords report nothing just where those that are left do
 abbrev pub invariant-accepts-loop-keyword : goal.invariant-accepts-loop-keyword
@@ -56,8 +76,8 @@ invariant-accepts-loop-keyword g l =
     (keywords_of g.E.RegexEngine.outcome (drop l.keyword-index l.keyword-items)) (view l.instance) site []
 
 -- and so do all targets
-abbrev pub invariant-rule_accepts-loop-target : goal.invariant-rule_accepts-loop-target
-invariant-rule_accepts-loop-target g l =
+abbrev pub invariant-found_accepts-loop-target : goal.invariant-found_accepts-loop-target
+invariant-found_accepts-loop-target g l =
     (lists : Lists) → Tests g.T.Fn l.self.text_accepts.now g.E.RegexEngine.outcome lists → (k : ℕ) (site : Site)
     → steps_for (length l.self.nodes.now) (view l.instance) l.steps ≤ k
     → EachReports (Reports (schemas_of g.E.RegexEngine.outcome l.self.nodes.now) lists k) site (string_bytes l.ruled.name) (targets_of l.target-items) []
@@ -96,3 +116,25 @@ invariant-take_by_schema-loop-keyword g l =
     → AreLeft (λ s. OneOf (λ key. KeywordEvaluates (Reports (schemas_of g.E.RegexEngine.outcome l.self.nodes.now) lists k) (Evaluates (schemas_of g.E.RegexEngine.outcome l.self.nodes.now) (Reports (schemas_of g.E.RegexEngine.outcome l.self.nodes.now) lists k) s j)
     (keywords_of g.E.RegexEngine.outcome l.keyword-items) (view l.instance) s (keyword_of g.E.RegexEngine.outcome key)) (take l.keyword-index l.keyword-items))
     (children_of l.fn.left.items) (children_of l.left.items)
+
+-- what is at each segment so far has no errors
+abbrev pub invariant-children_accept-loop-branch : goal.invariant-children_accept-loop-branch
+invariant-children_accept-loop-branch g l =
+    (lists : Lists) → Tests g.T.Fn l.self.text_accepts.now g.E.RegexEngine.outcome lists → (k : ℕ) (site : Site) (word : List ℕ)
+    → steps_for (length l.self.nodes.now) (view l.instance) 0 ≤ k
+    → EachReports (Reports (schemas_of g.E.RegexEngine.outcome l.self.nodes.now) lists k) site word (flat_map (on_child (view l.instance)) (branches_of l.branches)) []
+    ↔ EachReports (Reports (schemas_of g.E.RegexEngine.outcome l.self.nodes.now) lists k) site word (flat_map (on_child (view l.instance)) (branches_of (drop l.branch-index l.branches))) []
+
+-- the items have none by the schemas so far
+abbrev pub invariant-items_accept-loop-branch : goal.invariant-items_accept-loop-branch
+invariant-items_accept-loop-branch g l =
+    (lists : Lists) → Tests g.T.Fn l.self.text_accepts.now g.E.RegexEngine.outcome lists → (k : ℕ) (site : Site) (word : List ℕ)
+    → steps_for (length l.self.nodes.now) (view l.instance) 0 ≤ k
+    → AllBranches (Reports (schemas_of g.E.RegexEngine.outcome l.self.nodes.now) lists k) site word (drop l.from (placed_items (view l.instance))) l.branches (drop l.branch-index l.branches)
+
+-- and those so far have none
+abbrev pub invariant-items_accept_by-loop-place : goal.invariant-items_accept_by-loop-place
+invariant-items_accept_by-loop-place g l =
+    (lists : Lists) → Tests g.T.Fn l.self.text_accepts.now g.E.RegexEngine.outcome lists → (k : ℕ) (site : Site) (word : List ℕ)
+    → steps_for (length l.self.nodes.now) (view l.instance) 0 ≤ k
+    → AllItems (Reports (schemas_of g.E.RegexEngine.outcome l.self.nodes.now) lists k) site word (view l.instance) (branch_of l.branch) l.item-items l.from l.place

@@ -1,9 +1,9 @@
-use Rattle.std.proofs.Common.{arith, map, ◌∙◌, ap, sym}
+use Rattle.std.proofs.Common.{arith, ◌∙◌, ap, sym}
 use Rattle.std.proofs.lemmas.Grind.{common_steps}
 use Rattle.std.specs.List.{list_any}
 use Rattle.neldrafi_schema.specs.Rules.{leads_to}
 use Rattle.neldrafi_schema.specs.machine.Compiled.{keywords_of}
-use Rattle.neldrafi_schema.proofs.Lists.{drop_one, drop_past}
+use Rattle.neldrafi_schema.proofs.Lists.{drop_past}
 use Rattle.neldrafi_schema.proofs.validity.Checker.is_led_to.Goals as goal
 
 pub returns-then-branch : goal.returns-then-branch

@@ -3,7 +3,7 @@ use Rattle.std.proofs.lemmas.Grind.{common_steps}
 use Rattle.std.specs.List.{list_any}
 use Rattle.strkw_keywords.specs.Validators.{assertions_of}
 use Rattle.neldrafi_schema.specs.Rules.{is_matched}
-use Rattle.neldrafi_schema.proofs.Lists.{drop_one, drop_past}
+use Rattle.neldrafi_schema.proofs.Lists.{drop_past}
 use Rattle.neldrafi_schema.proofs.validity.Checker.is_matched.Goals as goal
 
 pub returns-then-branch : goal.returns-then-branch

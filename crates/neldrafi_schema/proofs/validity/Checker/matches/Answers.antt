@@ -1,4 +1,3 @@
-use Rattle.std.proofs.Common.{string_bytes}
 use Rattle.std.proofs.lemmas.Result.{IfOk-weaker}
 use Rattle.neldrafi_schema.proofs.Patterns.{pattern_verdict}
 use Rattle.neldrafi_schema.proofs.validity.Checker.matches.Goals as goal

@@ -4,9 +4,8 @@ use Rattle.std.specs.Prelude.{not}
 use Rattle.std.specs.List.{list_any}
 use Rattle.serde_json.specs.Data.{Data}
 use Rattle.serde_json.specs.View.{members_view, view}
-use Rattle.neldrafi_schema.specs.Paths.{key}
-use Rattle.neldrafi_schema.specs.Rules.{leads_to, member_list, on_members, target}
-use Rattle.neldrafi_schema.specs.machine.Compiled.{branch_of, keywords_of, targets_of}
+use Rattle.neldrafi_schema.specs.Rules.{leads_to, member_list}
+use Rattle.neldrafi_schema.specs.machine.Compiled.{keywords_of}
 use Rattle.serde_json.specs.Find.{as_object}
 use Rattle.neldrafi_schema.proofs.Items.{object_members}
 use Rattle.neldrafi_schema.proofs.Filtered.{kept_one, left_one, none_left}

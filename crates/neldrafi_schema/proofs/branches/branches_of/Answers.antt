@@ -4,7 +4,7 @@ use Rattle.neldrafi_schema.specs.declared.node.Branch.{Branch}
 use Rattle.neldrafi_schema.specs.machine.Places.{scope_of}
 use Rattle.neldrafi_schema.proofs.Lists.{nothing_in}
 use Rattle.neldrafi_schema.proofs.Numbering.{NumberedSoFar, all_numbered, one_numbered}
-use Rattle.neldrafi_schema.proofs.reading.branches_of.Goals as goal
+use Rattle.neldrafi_schema.proofs.branches.branches_of.Goals as goal
 
 pub loop-lead-preserved : goal.loop-lead-preserved
 loop-lead-preserved c =

@@ -1,7 +1,7 @@
 use Rattle.std.specs.Vec.Iter.{into_iter_items}
 use Rattle.neldrafi_schema.specs.machine.Places.{scope_of}
 use Rattle.neldrafi_schema.proofs.Numbering.{NumberedSoFar}
-use Rattle.neldrafi_schema.proofs.reading.branches_of.Given as goal
+use Rattle.neldrafi_schema.proofs.branches.branches_of.Given as goal
 
 -- the leads so far are numbered
 abbrev pub invariant-loop-lead : goal.invariant-loop-lead
