@@ -30,15 +30,28 @@ import unproved  # noqa: E402
 RECORDS, ROUNDS, PART, GROWTH_ROUNDS = 200_000, 5, 2_000, 3
 MODULES = "/usr/share/nodejs"  # where Debian has ajv
 PROGRAM = "schema_lines"
-USES = f"{PROGRAM}: neldrafi_schema strkw_ecma serde_json\n"
+USES = f"{PROGRAM}: neldrafi_schema strkw_ecma strkw_json json serde_json\n"
 MAIN = """//! Reads a schema, and then instances, one a line, and prints how many are valid.
 #![tactic(auto)]
 
+use json::{Reader, Scratch};
 use neldrafi_schema::{Config, Schema};
 use serde_json::Value;
+use std::alloc::Global;
 use std::io::{BufRead, BufReader};
 use std::process::ExitCode;
 use strkw_ecma::EcmaPatterns;
+use strkw_json::build_json;
+
+// The value of a line.
+fn read(alloc: Global, line: &str, scratch: &mut Scratch) -> Option<Value> {
+    let mut tokens = Reader::new(line, scratch).ok()?;
+    let value = build_json(alloc, &mut tokens, 127).ok()?;
+    match tokens.next() {
+        Some(_) => None,
+        None => Some(value),
+    }
+}
 
 fn main(rt: HostRuntime) -> ExitCode {
     let Ok(reader) = BufReader::new(rt.alloc(), rt.reader()) else {
@@ -47,11 +60,12 @@ fn main(rt: HostRuntime) -> ExitCode {
     let config = Config::new(&EcmaPatterns);
     let mut schema = None;
     let mut valid: u64 = 0;
+    let mut scratch = Scratch::new(rt.alloc());
     for line in reader.lines(rt.alloc()) {
         let Ok(line) = line else {
             return ExitCode::FAILURE;
         };
-        let Ok(value) = Value::from_str(rt.alloc(), line.as_str()) else {
+        let Some(value) = read(rt.alloc(), line.as_str(), &mut scratch) else {
             return ExitCode::FAILURE;
         };
         let Some(compiled) = &schema else {

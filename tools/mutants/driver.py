@@ -8,10 +8,11 @@
 
 A stored change is one of tools/mutants/CRATE.mutants. All changes stand in one copy of the sources, each behind a
 switch, so that each program is built once, without a proof. A section notices a change where the program with it does
-not answer each row as expected. The table is tools/mutants/noticed.tsv: a change, how many sections notice it, with a
+not answer each row as expected. No rows are about `neldrafi_schema`: each test of `neldrafi_test_schemas` is a section,
+and notices a change if it fails. The table is tools/mutants/noticed.tsv: a change, how many sections notice it, with a
 `+` where not all were asked, and their names, the quick ones first. `--rules` prints the changes that no row notices.
 
-It wants the rows of `python3 tools/rows --made`. Not part of the gate.
+It wants the rows of `python3 tools/rows --made` for all other crates. Not part of the gate.
 """
 import argparse
 import tempfile
@@ -38,12 +39,13 @@ def asked_for():
 
 def built(mutants, folder):
     """The programs with all changes behind switches, and these changes: what the compiler refuses is left out."""
+    programs = table.programs_about({mutant.crate for mutant in mutants})
     while True:
         with tempfile.TemporaryDirectory(dir=folder) as scratch:
             places, refused = switch.put_behind_switches(Path(scratch), mutants)
             try:
                 if not refused:
-                    return table.builds(Path(scratch)), mutants
+                    return table.builds(Path(scratch), programs), mutants
             except unproved.Refused as why:
                 refused = dict(switch.refusals(str(why), places))
                 if not refused:

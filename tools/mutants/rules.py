@@ -19,9 +19,9 @@ LETTER = re.compile(r"(b?)'(.)'|'\\u\{([0-9A-Fa-f]+)\}'", re.S)
 
 
 def crates_below():
-    """The crates that the row programs are built over."""
+    """The crates that the programs of rows and the tests are built over."""
     uses = unproved.uses_of(CRATES)
-    return sorted({name for program in table.PROGRAMS for name in unproved.below(program, uses)
+    return sorted({name for program in table.PROGRAMS + table.TESTS for name in unproved.below(program, uses)
                    if not name.startswith("strkw_test")})
 
 

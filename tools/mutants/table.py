@@ -1,4 +1,4 @@
-"""Which sections of rows notice which changes: runs of the programs with one change chosen."""
+"""Which sections of rows, or which tests, notice which changes: runs of the programs with one change chosen."""
 import functools
 import os
 import resource
@@ -13,6 +13,8 @@ from rows import kept, programs
 import unproved
 
 PROGRAMS = ("strkw_test_grammars", "strkw_test_rows")
+# The tests of crates that no program of rows is built over.
+TESTS = ("neldrafi_test_schemas",)
 SIDE_BY_SIDE = 2
 # A changed program may run for ever, or take all memory.
 LEAST_SECONDS, TIMES_AS_LONG = 2, 10
@@ -21,10 +23,11 @@ MOST_BYTES, MOST_TOLD = 4 << 30, 64 << 20
 
 @dataclass
 class Asked:
-    """A section as it is fed to a program: the seconds that this takes unchanged, and the changes that it reaches."""
+    """A section as it is fed to a program, or a test, which is fed nothing: the seconds that this takes unchanged, and
+    the changes that it reaches."""
     program: str
     name: str
-    text: bytes
+    text: bytes = b""
     seconds: float = 0.0
     reached: set = field(default_factory=set)
 
@@ -32,6 +35,20 @@ class Asked:
     def title(self):
         """The section's name behind that of its program."""
         return f"{self.program}: {self.name}"
+
+    @property
+    def arguments(self):
+        """Those of the program."""
+        return [self.name] if self.program in TESTS else []
+
+    @property
+    def given(self):
+        """What the program reads."""
+        return b"" if self.program in TESTS else self.text + wrong_row(self.program)[0]
+
+    def is_answered(self, status, told):
+        """Whether a program that ended so answered as expected."""
+        return status == 0 and (self.program in TESTS or told == wrong_row(self.program)[1])
 
 
 def by_hand(program):
@@ -52,10 +69,27 @@ def in_lines(lines):
     return "".join(f"{line}\n" for line in lines).encode()
 
 
-def sections():
-    """All sections, those by hand first."""
-    hand = [section for program in PROGRAMS for section in by_hand(program)]
-    return hand + [Asked(it.program, it.name, it.text.encode()) for it in kept.kept()]
+def tests_of(program, build):
+    """The tests of a program."""
+    told = subprocess.run([build, "--list"], stdin=subprocess.DEVNULL, stdout=subprocess.PIPE, text=True, check=True)
+    return [Asked(program, line.removesuffix(": test")) for line in told.stdout.splitlines() if line.endswith(": test")]
+
+
+def sections(paths):
+    """All sections and tests of programs, those by hand first, and those by rule last."""
+    hand = [section for program in PROGRAMS if program in paths for section in by_hand(program)]
+    tests = [test for program in TESTS if program in paths for test in tests_of(program, paths[program])]
+    made = [Asked(it.program, it.name, it.text.encode()) for it in kept.kept() if it.program in paths] if hand else []
+    return hand + tests + made
+
+
+def programs_about(crates):
+    """The programs of rows that are built over any of the crates, and the tests if one of these is in none."""
+    uses = unproved.uses_of(unproved.TOP / "crates")
+    below = {program: {*unproved.below(program, uses)} for program in PROGRAMS + TESTS}
+    others = {*crates} - set().union(*(below[program] for program in PROGRAMS))
+    asked = [program for program in PROGRAMS if below[program] & {*crates}]
+    return asked + [program for program in TESTS if below[program] & others]
 
 
 def switch_object(folder):
@@ -65,11 +99,11 @@ def switch_object(folder):
     return made
 
 
-def builds(folder):
-    """The programs of a copy of the sources. What is refused of any of them is told in one."""
+def builds(folder, programs):
+    """These programs of a copy of the sources. What is refused of any of them is told in one."""
     made = switch_object(folder)
     with ThreadPoolExecutor(SIDE_BY_SIDE) as pool:
-        tries = {name: pool.submit(unproved.build, name, folder / "crates", [made]) for name in PROGRAMS}
+        tries = {name: pool.submit(unproved.build, name, folder / "crates", [made]) for name in programs}
     why = [str(it.exception()) for it in tries.values() if isinstance(it.exception(), unproved.Refused)]
     if why:
         raise unproved.Refused("\n".join(why))
@@ -94,16 +128,15 @@ def limits(seconds):
 
 def run(build, section, change, seconds, **environment):
     """Whether a program with a change answers a section as it expects, and how many seconds of a processor it takes."""
-    row, expected = wrong_row(section.program)
     with tempfile.TemporaryFile() as given, tempfile.TemporaryFile() as told:
-        given.write(section.text + row)
+        given.write(section.given)
         given.seek(0)
-        process = subprocess.Popen([build], stdin=given, stdout=told, stderr=subprocess.DEVNULL,
+        process = subprocess.Popen([build, *section.arguments], stdin=given, stdout=told, stderr=subprocess.DEVNULL,
                                    env={"CHANGE": str(change), **environment}, preexec_fn=limits(seconds))
         _, status, used = os.wait4(process.pid, 0)
         process.returncode = os.waitstatus_to_exitcode(status)
         told.seek(0)
-        return status == 0 and told.read() == expected, used.ru_utime + used.ru_stime
+        return section.is_answered(status, told.read()), used.ru_utime + used.ru_stime
 
 
 def measure(build, section):
@@ -118,9 +151,9 @@ def measure(build, section):
 
 
 def measured(paths):
-    """All sections that are answered rightly, the quick ones first."""
+    """All sections and tests that are answered rightly, the quick ones first."""
     with ThreadPoolExecutor(SIDE_BY_SIDE) as pool:
-        found = list(pool.map(lambda section: measure(paths[section.program], section), sections()))
+        found = list(pool.map(lambda section: measure(paths[section.program], section), sections(paths)))
     return sorted((section for section in found if section), key=lambda section: section.seconds)
 
 

@@ -129,13 +129,13 @@ module _ {E : Type 0} (outcome : E → List ℕ → Outcome) (s : Settings) (pat
 
     says_case : (at : Path) (other : Option (Result (Validator E) CompileError)) → IsCompiledCase outcome settings.place compiled.entries other
         → ((e : CompileError) → other ≡ Some (Err e) → e.kind ≡ Memory → ⊥)
-        → SaysEntries at (all_assertions settings.place compiled.entries) (refusal settings.place compiled.entries) (read_keywords outcome at other)
+        → SaysEntries at k (all_assertions settings.place compiled.entries) (refusal settings.place compiled.entries) (read_keywords outcome at k other)
     says_case at None case some = rw case.good (inr (case.asserts, refl))
-    says_case at (Some (Ok w)) case some = rw case.good (inl (ap (λ a. string_keyword a ∷ []) case.asserts))
+    says_case at (Some (Ok w)) case some = rw case.good (inl (ap (λ a. string_keyword (keyword_name k) a ∷ []) case.asserts))
     says_case at (Some (Err e)) (inl memory) some = absurd (some e refl (is_memory e.kind (ap (λ r. r.reason) memory)))
     says_case at (Some (Err e)) (inr refused) some = rw refused refl
 
-    pub alone_says : (at : Path) (d : Data) → v ≡ handed k d → ((e : CompileError) → answer ≡ Some (Err e) → e.kind ≡ Memory → ⊥) → TextSays settings at k d (read_keywords outcome at answer)
+    pub alone_says : (at : Path) (d : Data) → v ≡ handed k d → ((e : CompileError) → answer ≡ Some (Err e) → e.kind ≡ Memory → ⊥) → TextSays settings at k d (read_keywords outcome at k answer)
     alone_says at d same some = record {
       entries = compiled.entries;
       are_entries = subst (λ x. AreEntriesOf settings (member (keyword_name k) x no_members) (k ∷ []) compiled.entries) same entries;

@@ -16,6 +16,7 @@ use Rattle.neldrafi_schema.specs.Schemas.{Keyword, Reason, by_string_keyword, ma
 use Rattle.neldrafi_schema.specs.Values.{Lead, member_leads, says as stated}
 use Rattle.neldrafi_schema.specs.Settings.{keyword_settings}
 use Rattle.neldrafi_schema.specs.machine.Ready.{IsPatternReady, RestsOn}
+use Rattle.strkw_keywords.specs.Keywords.{keyword_name}
 use Rattle.neldrafi_schema.specs.machine.Said.{IsReadReady, read_keywords}
 use Rattle.neldrafi_schema.proofs.Keeping.{all_more}
 use Rattle.neldrafi_schema.proofs.Lists.{mapped_more}
@@ -33,11 +34,11 @@ module _ {E : Type 0} (outcome : E → List ℕ → Outcome) (s : Settings) (pat
   Says pattern first = TextSays (keyword_settings s path text.Pattern) (key name ∷ key pattern ∷ []) text.Pattern (string pattern) first
 
   pub one_pattern : (pattern : List ℕ) (d : Data) (rest : Members) (vs more : List (Validator E)) (v : Validator E) → CompiledSoFar (member pattern d rest) vs
-      → Says pattern (string_keyword (assertions_of outcome v) ∷ []) → more ≡ vs ++ v ∷ [] → CompiledSoFar rest more
+      → Says pattern (string_keyword (keyword_name text.Pattern) (assertions_of outcome v) ∷ []) → more ≡ vs ++ v ∷ [] → CompiledSoFar rest more
   one_pattern pattern d rest vs more v before says e = λ later are.
-      let first = string_keyword (assertions_of outcome v) ∷ [] in
+      let first = string_keyword (keyword_name text.Pattern) (assertions_of outcome v) ∷ [] in
       subst (PatternsAre s path name all) (same later) (before (with_pattern first later) (first, says, (later, are, refl))) where
-        same : (later : Patterns) → joined vs (with_pattern (string_keyword (assertions_of outcome v) ∷ []) later) ≡ joined more later
+        same : (later : Patterns) → joined vs (with_pattern (string_keyword (keyword_name text.Pattern) (assertions_of outcome v) ∷ []) later) ≡ joined more later
         same (patterns others) = ap patterns (sym (mapped_more (assertions_of outcome) vs more v (assertions_of outcome v) others _ refl refl e))
         same (malformed_at at why) = refl
 
@@ -83,13 +84,13 @@ module _ {E : Type 0} (outcome : E → List ℕ → Outcome) (s : Settings) (pat
 
   module _ (pattern : List ℕ) (d : Data) (rest : Members) (vs : List (Validator E)) (so_far : PatternsSoFar (member pattern d rest) vs)
       (found : Option (Result (Validator E) CompileError))
-      (says : (at : Path) → TextSays (keyword_settings s path text.Pattern) at text.Pattern (string pattern) (read_keywords outcome at found))
+      (says : (at : Path) → TextSays (keyword_settings s path text.Pattern) at text.Pattern (string pattern) (read_keywords outcome at text.Pattern found))
       (ready : IsReadReady outcome s.lists text.Pattern found) where
     abbrev At : List ℕ → Path
     At name = key name ∷ key pattern ∷ []
 
     abbrev SaysOf : Path → Option (Result (Validator E) CompileError) → Type 0
-    SaysOf at o = TextSays (keyword_settings s path text.Pattern) at text.Pattern (string pattern) (read_keywords outcome at o)
+    SaysOf at o = TextSays (keyword_settings s path text.Pattern) at text.Pattern (string pattern) (read_keywords outcome at text.Pattern o)
 
     pub found_none : (more : List (Validator E)) → found ≡ None → more ≡ vs → PatternsSoFar rest more
     found_none more is same = rw same (record {

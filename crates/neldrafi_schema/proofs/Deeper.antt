@@ -29,7 +29,7 @@ use Rattle.neldrafi_schema.specs.Schemas.{unknown_dialect, wrong_type, Rule, typ
 use Rattle.neldrafi_schema.specs.Schemas.{properties, matching, other_members, no_other_members, member_names, placed, other_items, no_other_items}
 use Rattle.neldrafi_schema.specs.Schemas.{negation, any_of, one_of, where_valid, where_not_valid, condition, unevaluated, held}
 use Rattle.neldrafi_schema.specs.Values.{Lead, Sense, nothing, says, refused, additional_sense, anchor_sense, branch_sense, contains_rule, dependencies_in, dependencies_sense, dependency_leads, dependent_names}
-use Rattle.neldrafi_schema.specs.Values.{dialect_sense, distinct_sense, draft_4_sense, flag_sense, greatest_of, has_placed_items, has_some, identifier_sense, if_rule, is_array, is_condition, lead_below, lead_to, least_of, item_leads, items_sense, list_sense, map_sense}
+use Rattle.neldrafi_schema.specs.Values.{dialect_sense, distinct_sense, draft_4_sense, flag_sense, greatest_of, has_flags, has_placed_items, has_some, identifier_sense, is_array, kind_sense, lead_below, lead_to, least_of, item_leads, items_sense, list_sense, map_sense}
 use Rattle.neldrafi_schema.specs.Values.{member_leads, names_in, number_sense, of_kind, others_sense, positive_in, reference_sense, sense, target_sense, types_in, values_in}
 
 abbrev pub is_matching : Rule → Bool
@@ -149,9 +149,8 @@ module _ (path : Path) where
   draft_4_down ms limit.ExclusiveMinimum d = flag_down (codes "minimum") ms d
   draft_4_down ms limit.ExclusiveMaximum d = flag_down (codes "maximum") ms d
 
-  if_plain : (b : Bool) → is_matching (if b then condition else held) ≡ false
-  if_plain true = refl
-  if_plain false = refl
+  nothing_down : (is_right : Bool) → IsSenseDown (kind_sense is_right)
+  nothing_down is_right = chosen_down is_right nothing (refused wrong_type) tt tt
 
   pub sense_down : (draft : Draft) (ms : Members) (at : Path) (k : Known) (d : Data) → length path < length at
       → IsSenseDown (sense draft ms path at k d)
@@ -184,12 +183,21 @@ module _ (path : Path) where
   sense_down draft ms at known.AnyOf d h = list_down at h any_of refl (as_array d)
   sense_down draft ms at known.OneOf d h = list_down at h one_of refl (as_array d)
   sense_down draft ms at known.Not d h = one_down at h (negation d) refl
-  sense_down draft ms at known.If d h = one_down at h (if_rule draft ms) (if_plain (is_condition draft ms))
+  sense_down draft ms at known.If d h = one_down at h condition refl
   sense_down draft ms at known.DependentRequired d h = kind_down (λ ds. says (dependent ds) []) (λ ds. no_leads (dependent ds) refl)
       (option_and_then (dependent_names draft) (as_object d))
   sense_down draft ms at known.DependentSchemas d h = map_down at h (dependent []) refl (as_object d)
   sense_down draft ms at known.PrefixItems d h = list_down at h placed refl (as_array d)
-  sense_down draft ms at known.ContainsCount d h = kind_down (λ n. nothing) (λ n. tt) (size_in d)
+  sense_down draft ms at known.ContainsCount d h = nothing_down (is_some (size_in d))
+  sense_down draft ms at known.Description d h = nothing_down (is_some (as_str d))
+  sense_down draft ms at known.Default d h = tt
+  sense_down draft ms at known.Examples d h = nothing_down (is_array d)
+  sense_down draft ms at known.Comment d h = nothing_down (is_some (as_str d))
+  sense_down draft ms at known.Access d h = nothing_down (is_some (as_bool d))
+  sense_down draft ms at known.Deprecated d h = nothing_down (is_some (as_bool d))
+  sense_down draft ms at known.Content d h = nothing_down (is_some (as_str d))
+  sense_down draft ms at known.Vocabulary d h = nothing_down (has_flags (as_object d))
+  sense_down draft ms at known.ContentSchema d h = one_down at h held refl
   sense_down draft ms at (known.Unevaluated p) d h = others_down at h draft (unevaluated p) (unevaluated p) refl refl (as_bool d)
   sense_down draft ms at known.Defs d h = map_down at h held refl (as_object d)
   sense_down draft ms at known.Then d h = branch_down at h where_valid ms refl

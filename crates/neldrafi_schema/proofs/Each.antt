@@ -24,15 +24,15 @@ module _ (below : Below) (site : Site) (word : List ℕ) where
   others : (t : Target) (ts : List Target) → None (t ∷ ts) → None ts
   others t ts p = (target_passed below site word t ts (target_first below site word t ts p)).0 p
 
-  both : (ts us : List Target) → None ts → None us → None (ts ++ us)
+  pub both : (ts us : List Target) → None ts → None us → None (ts ++ us)
   both [] us p q = q
   both (t ∷ ts) us p q = ([], [], target_first below site word t ts p, both ts us (others t ts p) q, refl)
 
-  first : (ts us : List Target) → None (ts ++ us) → None ts
+  pub first : (ts us : List Target) → None (ts ++ us) → None ts
   first [] us p = refl
   first (t ∷ ts) us p = ([], [], target_first below site word t (ts ++ us) p, first ts us (others t (ts ++ us) p), refl)
 
-  behind : (ts us : List Target) → None (ts ++ us) → None us
+  pub behind : (ts us : List Target) → None (ts ++ us) → None us
   behind [] us p = p
   behind (t ∷ ts) us p = behind ts us (others t (ts ++ us) p)
 

@@ -22,6 +22,7 @@ use Rattle.neldrafi_schema.specs.machine.Said.{flag_at}
 use Rattle.neldrafi_schema.proofs.Fitting.{and_left, and_right}
 use Rattle.neldrafi_schema.proofs.Lists.{there}
 use Rattle.neldrafi_schema.proofs.Meaningful.{schema_ends_alike}
+use Rattle.neldrafi_schema.specs.machine.Compiled.{header_of}
 
 -- a schema that ends takes a step
 pub ends_some : (schemas : List Schema) (steps n : ℕ) → ends schemas steps n ≡ true → 0 < steps
@@ -53,7 +54,7 @@ module _ {E : Type 0} (outcome : E → List ℕ → Outcome) (nodes : List (Node
   -- what a node's schema reports
   pub reports_there : (lists : Lists) (steps n : ℕ) (node : Node E) (d : Data) (site : Site) (es : List Error) → n < length nodes → node ≡ get_or nodes n node
       → Reports (schemas_of outcome nodes) lists (suc steps) n d site es
-      ≡ SchemaReports (schemas_of outcome nodes) (Reports (schemas_of outcome nodes) lists steps) lists node.location (body_of outcome node.body) d site es
+      ≡ SchemaReports (schemas_of outcome nodes) (Reports (schemas_of outcome nodes) lists steps) lists (header_of node.header) (body_of outcome node.body) d site es
   unfolding Reports
   reports_there lists steps n node d site es h e = rw (schema_there n node h e) refl
 

@@ -8,7 +8,7 @@ use Rattle.strkw_keywords.specs.Errors.{Assertion}
 use Rattle.neldrafi_schema.specs.declared.targets.Target.{Target as FoundTarget}
 use Rattle.neldrafi_schema.specs.Paths.{Path, Segment, child}
 use Rattle.neldrafi_schema.specs.Refusals.{ends, in_place, is_in_place, schemas_in}
-use Rattle.neldrafi_schema.specs.Rules.{Target, applied, counts_nothing, on_child, on_items, on_matched, on_members, option_list, other_items_in, other_members_in, path_of, placed_items, spans, tested, valid_of}
+use Rattle.neldrafi_schema.specs.Rules.{Target, applied, counts_nothing, on_child, on_items, on_matched, on_members, option_list, other_items_in, other_members_in, path_of, placed_items, found_valid, is_choice, reached, spans, tested, valid_of}
 use Rattle.neldrafi_schema.specs.Schemas.{Rule, types, among, equal_to, limited, multiple_of, sized, distinct, required, reference, all_of, dependent, properties, matching, other_members, no_other_members, member_names, placed, other_items, no_other_items, negation, any_of, one_of, contains, where_valid, where_not_valid, condition, unevaluated, held, Branch, Keyword, Schema, rule}
 use Rattle.neldrafi_schema.specs.machine.Compiled.{target_of, targets_of}
 use Rattle.neldrafi_schema.specs.machine.Left.{AreSpans, EndsHere}
@@ -145,8 +145,9 @@ module _ (d : Data) where
         spans_hold IsHere d beside r bs vs (tested_hold IsHere d r bs here below) (applied_hold IsHere d beside r bs vs here below)
 
     none_here : is_in_place r ≡ false → All (spans beside r bs d vs)
-    none_here is = chosen Enters (counts_nothing r) (valid_of (tested r bs d) vs ++ applied beside r bs d vs) (λ c.
-        both_enter (valid_of (tested r bs d) vs) (applied beside r bs d vs) (valid_enter (tested r bs d) vs (tested_enter r bs is)) (applied_enter beside r bs vs is c))
+    none_here is = chosen Enters (counts_nothing r) (reached beside r bs d vs) (λ c.
+        both_enter (found_valid r bs d vs) (applied beside r bs d vs)
+        (chosen Enters (is_choice r) (valid_of (tested r bs d) vs) (λ e. valid_enter (tested r bs d) vs (tested_enter r bs is))) (applied_enter beside r bs vs is c))
 
     by_place : (b : Bool) → is_in_place r ≡ b → AllByRecursion (EndsHere schemas steps d) (spans beside r bs d vs)
     by_place true is = all_weaker _ _ (λ t p e. p) (spans beside r bs d vs) (all_here is)

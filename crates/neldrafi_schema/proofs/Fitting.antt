@@ -31,7 +31,7 @@ module _ (Fine : ℕ → Data → Type 0) where
   abbrev pub IsKeywordFine : Data → List Keyword → Keyword → Type 0
   IsKeywordFine d beside (rule word r bs) = Hold Fine (tested r bs d) × ((vs : List Bool) → Hold Fine (applied beside r bs d vs))
       × ((x : Part) → part_of r ≡ Some x → (left : List Child) → AllByRecursion (IsLess d) left → Hold Fine (flat_map (on_each left) bs))
-  IsKeywordFine d beside (string_keyword asserted) = Unit {0}
+  IsKeywordFine d beside (string_keyword word asserted) = Unit {0}
   IsKeywordFine d beside (malformed path why) = ⊥
 
   abbrev pub IsBodyFine : Data → Body → Type 0
@@ -105,7 +105,7 @@ module _ (schemas : List Schema) (sound : AreSound schemas) where
           λ vs. applied_hold (Fits k) d beside r bs vs here below,
           λ x p left less. left_hold (Fits k) d left bs less (below (enters_instance r x p)),
         )
-    keyword_fits beside (string_keyword asserted) good e = tt
+    keyword_fits beside (string_keyword word asserted) good e = tt
     keyword_fits beside (malformed path why) good e = good
 
     keywords_fit : (beside ks : List Keyword) → AllByRecursion (IsSoundKeyword (length schemas)) ks → keywords_end (ends schemas s) ks ≡ true

@@ -7,7 +7,7 @@ pub mod Same
 pub mod Depth
 pub mod Within
 pub mod Fitting
-pub mod Evaluation
+pub mod Spanning
 pub mod Determined
 pub mod Taking
 pub mod Steps
@@ -22,6 +22,7 @@ pub mod Finding
 pub mod Members
 pub mod Stable
 pub mod Bodies
+pub mod Added
 pub mod Alone
 pub mod Deeper
 pub mod Ways
@@ -38,6 +39,10 @@ pub mod Taken
 pub mod Visited
 pub mod Plain
 pub mod Each
+pub mod Counts
+pub mod Leaving
+pub mod Choosing
+pub mod Applied
 pub mod Where
 pub mod Visiting
 pub mod Wholes
@@ -45,5 +50,7 @@ pub mod Gathering
 pub mod Patterns
 pub mod Cases
 pub mod Refusing
+pub mod Listed
 pub mod Identified
+pub mod Named
 pub mod Referring

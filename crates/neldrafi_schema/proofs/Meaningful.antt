@@ -10,14 +10,14 @@ use Rattle.neldrafi_schema.specs.Schemas.{circular_reference, Keyword, rule, str
 use Rattle.neldrafi_schema.specs.machine.Said.{meaningful, meaningful_body}
 
 abbrev pub meaningful_schema : Schema → Schema
-meaningful_schema t = record { location = t.location; body = meaningful_body t.body }
+meaningful_schema t = record { header = t.header; body = meaningful_body t.body }
 
 -- ---- ways that end
 
 keywords_end_same : (end : ℕ → Bool) (ks : List Keyword) → keywords_end end (meaningful ks) ≡ keywords_end end ks
 keywords_end_same end [] = refl
 keywords_end_same end (rule w r bs ∷ ks) = ap (λ b. list_all end (in_place (rule w r bs)) && b) (keywords_end_same end ks)
-keywords_end_same end (string_keyword asserted ∷ ks) = keywords_end_same end ks
+keywords_end_same end (string_keyword word asserted ∷ ks) = keywords_end_same end ks
 keywords_end_same end (malformed below why ∷ ks) = keywords_end_same end ks
 
 body_ends_same : (end : ℕ → Bool) (body : Body) → body_ends end (meaningful_body body) ≡ body_ends end body
@@ -61,7 +61,7 @@ ends_same ts (suc steps) n =
 keywords_endless_same : (end : ℕ → Bool) (path : Path) (ks : List Keyword) → keywords_endless end path (meaningful ks) ≡ keywords_endless end path ks
 keywords_endless_same end path [] = refl
 keywords_endless_same end path (rule w r bs ∷ ks) = ap (λ l. keyword_endless end path (rule w r bs) ++ l) (keywords_endless_same end path ks)
-keywords_endless_same end path (string_keyword asserted ∷ ks) = keywords_endless_same end path ks
+keywords_endless_same end path (string_keyword word asserted ∷ ks) = keywords_endless_same end path ks
 keywords_endless_same end path (malformed below why ∷ ks) = keywords_endless_same end path ks
 
 body_endless_same : (end : ℕ → Bool) (path : Path) (body : Body) → body_endless end path (meaningful_body body) ≡ body_endless end path body
@@ -78,7 +78,7 @@ endless_same end (path ∷ paths) (t ∷ ts) = ap₂ (λ a b. a ++ b) (body_endl
 keywords_endless_alike : (f g : ℕ → Bool) → ((n : ℕ) → f n ≡ g n) → (path : Path) (ks : List Keyword) → keywords_endless f path ks ≡ keywords_endless g path ks
 keywords_endless_alike f g same path [] = refl
 keywords_endless_alike f g same path (rule w r bs ∷ ks) = rw (list_all_alike f g same (schemas_in bs), keywords_endless_alike f g same path ks) refl
-keywords_endless_alike f g same path (string_keyword asserted ∷ ks) = keywords_endless_alike f g same path ks
+keywords_endless_alike f g same path (string_keyword word asserted ∷ ks) = keywords_endless_alike f g same path ks
 keywords_endless_alike f g same path (malformed below why ∷ ks) = keywords_endless_alike f g same path ks
 
 body_endless_alike : (f g : ℕ → Bool) → ((n : ℕ) → f n ≡ g n) → (path : Path) (body : Body) → body_endless f path body ≡ body_endless g path body
@@ -106,7 +106,7 @@ nil_second (x ∷ xs) ys e = cc
 meaningful_all : (path : Path) (ks : List Keyword) → keywords_problems path ks ≡ [] → meaningful ks ≡ ks
 meaningful_all path [] e = refl
 meaningful_all path (rule w r bs ∷ ks) e = ap (λ l. rule w r bs ∷ l) (meaningful_all path ks e)
-meaningful_all path (string_keyword asserted ∷ ks) e = ap (λ l. string_keyword asserted ∷ l) (meaningful_all path ks e)
+meaningful_all path (string_keyword word asserted ∷ ks) e = ap (λ l. string_keyword word asserted ∷ l) (meaningful_all path ks e)
 meaningful_all path (malformed below why ∷ ks) e = cc
 
 body_all : (path : Path) (body : Body) → body_problems path body ≡ [] → meaningful_body body ≡ body
@@ -121,7 +121,7 @@ schemas_all [] (t ∷ ts) h e = absurd (omega arith)
 schemas_all (path ∷ paths) [] h e = refl
 schemas_all (path ∷ paths) (t ∷ ts) h e =
     let this : meaningful_schema t ≡ t =
-    ap (λ b. record { location = t.location; body = b }) (body_all path t.body (nil_first (body_problems path t.body) (problems paths ts) e)) in
+    ap (λ b. record { header = t.header; body = b }) (body_all path t.body (nil_first (body_problems path t.body) (problems paths ts) e)) in
     ap₂ (λ x xs. x ∷ xs) this (schemas_all paths ts (omega arith) (nil_second (body_problems path t.body) (problems paths ts) e))
 
 abbrev pub at : Path → Problem

@@ -36,12 +36,12 @@ problems-append path (k ∷ ks) others = ap (λ l. keyword_problems path k ++ l)
 -- what is compiled has a meaning
 pub no_problem : {E : Type 0} (outcome : E → List ℕ → Outcome) (path : Path) (k : CompiledKeyword E) → keywords_problems path (keyword_of outcome k ∷ []) ≡ []
 no_problem outcome path (compiled.Rule r) = refl
-no_problem outcome path (compiled.Text v) = refl
+no_problem outcome path (compiled.Text n v) = refl
 
 -- and stays
 pub compiled_means : {E : Type 0} (outcome : E → List ℕ → Outcome) (k : CompiledKeyword E) → meaningful (keyword_of outcome k ∷ []) ≡ keyword_of outcome k ∷ []
 compiled_means outcome (compiled.Rule r) = refl
-compiled_means outcome (compiled.Text v) = refl
+compiled_means outcome (compiled.Text n v) = refl
 
 pub meaningful-append : (ks others : List Keyword) → meaningful (ks ++ others) ≡ meaningful ks ++ meaningful others
 meaningful-append [] others = refl

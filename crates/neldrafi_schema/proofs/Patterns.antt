@@ -17,6 +17,7 @@ use Rattle.neldrafi_schema.specs.Meaning.{TextReports, root_site}
 use Rattle.neldrafi_schema.specs.Rules.{is_match, is_matched, meets}
 use Rattle.neldrafi_schema.specs.machine.Ready.{IsPattern}
 use Rattle.neldrafi_schema.proofs.Fitting.{and_left, and_right}
+use Rattle.neldrafi_schema.specs.Schemas.{Header}
 use Rattle.neldrafi_schema.proofs.Texts.{no_reports}
 
 not_found : (p : List ℕ) (o : Outcome) → is_match o ≡ true → None ≡ found_by_outcome p o
@@ -74,10 +75,12 @@ same_test false false f g = refl
 -- whether a pattern reports nothing of a name is whether it matches it
 pub pattern_verdict : {E : Type 0} (outcome : E → List ℕ → Outcome) (lists : Lists) (v : Validator E) (name : List ℕ) (b : Bool)
     → AllByRecursion IsPattern (demands_of outcome v)
-    → ((site : Site) → IsTrue b ↔ TextReports lists (assertions_of outcome v) (Some name) site []) → b ≡ is_matched name (assertions_of outcome v)
+    → ((header : Header) (word : List ℕ) (site : Site) → IsTrue b ↔ TextReports lists header word (assertions_of outcome v) (Some name) site [])
+    → b ≡ is_matched name (assertions_of outcome v)
 pattern_verdict outcome lists v name b all says =
     let asserted = assertions_of outcome v in
     let patterns = asserted_patterns (place_of v) (demands_of outcome v) all in
+    let verdict = says (record { location = []; absolute = []; notes = [] }) [] root_site in
     same_test b (is_matched name asserted)
-    (λ t. let r = (says root_site).0 t in all_meet lists root_site name asserted patterns (subst (AllReport asserted lists root_site name) (no_reports r.0 r.2) r.1))
-    (λ e. (says root_site).1 ([], none_report lists root_site name asserted patterns e, refl))
+    (λ t. let r = verdict.0 t in all_meet lists root_site name asserted patterns (subst (AllReport asserted lists root_site name) (no_reports _ r.0 r.2) r.1))
+    (λ e. verdict.1 ([], none_report lists root_site name asserted patterns e, refl))

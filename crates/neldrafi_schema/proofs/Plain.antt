@@ -5,7 +5,7 @@ use Rattle.std.proofs.lemmas.Bool.{false≢true}
 use Rattle.serde_json.specs.Data.{Data}
 use Rattle.strkw_report.specs.declared.error.Site.{Site}
 use Rattle.strkw_keywords.specs.Meanings.{Lists}
-use Rattle.neldrafi_schema.specs.Schemas.{Branch, Keyword, Rule, Schema, rule, types, among, equal_to, limited, multiple_of, sized, distinct, required, properties, placed, other_items}
+use Rattle.neldrafi_schema.specs.Schemas.{Branch, Keyword, Rule, Schema, rule, types, among, equal_to, limited, multiple_of, sized, distinct, required, properties, placed, other_items, Header}
 use Rattle.neldrafi_schema.specs.Rules.{Target, applied, child_at, kinds, on_child, on_items, option_list, part_of, path_of, placed_count, placed_items, target, tested}
 use Rattle.neldrafi_schema.specs.Meaning.{Below, EachReports, KeywordReports}
 use Rattle.neldrafi_schema.specs.machine.Left.{AreFindings}
@@ -35,35 +35,35 @@ module _ (beside : List Keyword) (bs : List Branch) (d : Data) where
   plain_leads_nowhere other e = absurd (false≢true e)
 
 -- what it reports is what it reports itself
-pub plain_reports : (schemas : List Schema) (below : Below) (lists : Lists) (location : List ℕ) (beside : List Keyword) (word : List ℕ) (r : Rule) (bs : List Branch) (d : Data) (site : Site)
-    (b : Bool) → IsPlainVerdict r d b → IsTrue b ↔ KeywordReports schemas below lists location beside (rule word r bs) d site []
-plain_reports schemas below lists location beside word r bs d site b (plain, verdict) =
+pub plain_reports : (schemas : List Schema) (below : Below) (lists : Lists) (header : Header) (beside : List Keyword) (word : List ℕ) (r : Rule) (bs : List Branch) (d : Data) (site : Site)
+    (b : Bool) → IsPlainVerdict r d b → IsTrue b ↔ KeywordReports schemas below lists header beside (rule word r bs) d site []
+plain_reports schemas below lists header beside word r bs d site b (plain, verdict) =
     let nowhere = plain_leads_nowhere beside bs d r plain in
     let found : AreFindings schemas below beside (rule word r bs) d site (kinds beside word r d []) [] =
     own_found schemas below beside word r bs d site (kinds beside word r d []) [] [] nowhere.speaks (rw nowhere.tests refl) refl (sym nowhere.leads) in (
-      λ t. rule_passes schemas below lists location beside word r bs d site (kinds beside word r d []) [] found ((verdict beside word).0 t) refl,
-      λ reported. (verdict beside word).1 (no_kinds schemas below lists location beside word r bs d site (kinds beside word r d []) [] found reported),
+      λ t. rule_passes schemas below lists header beside word r bs d site (kinds beside word r d []) [] found ((verdict beside word).0 t) refl,
+      λ reported. (verdict beside word).1 (no_kinds schemas below lists header beside word r bs d site (kinds beside word r d []) [] found reported),
     )
 
 -- a rule that tests nothing and reports nothing itself reports what it leads to
-module _ (schemas : List Schema) (below : Below) (lists : Lists) (location : List ℕ) (beside : List Keyword) (word : List ℕ) (bs : List Branch) (d : Data) (site : Site) (b : Bool) where
-  leads_report : (r : Rule) (ts : List Target) → AreFindings schemas below beside (rule word r bs) d site [] ts → IsTrue b ↔ EachReports below site word ts []
-      → IsTrue b ↔ KeywordReports schemas below lists location beside (rule word r bs) d site []
+module _ (schemas : List Schema) (below : Below) (lists : Lists) (header : Header) (beside : List Keyword) (word : List ℕ) (bs : List Branch) (d : Data) (site : Site) (b : Bool) where
+  pub leads_report : (r : Rule) (ts : List Target) → AreFindings schemas below beside (rule word r bs) d site [] ts → IsTrue b ↔ EachReports below site word ts []
+      → IsTrue b ↔ KeywordReports schemas below lists header beside (rule word r bs) d site []
   leads_report r ts found says = (
-    λ t. rule_passes schemas below lists location beside word r bs d site [] ts found refl (says.0 t),
-    λ reported. says.1 (no_targets schemas below lists location beside word r bs d site [] ts found reported),
+    λ t. rule_passes schemas below lists header beside word r bs d site [] ts found refl (says.0 t),
+    λ reported. says.1 (no_targets schemas below lists header beside word r bs d site [] ts found reported),
   )
 
   pub properties_report : IsTrue b ↔ EachReports below site word (flat_map (on_child d) bs) []
-      → IsTrue b ↔ KeywordReports schemas below lists location beside (rule word properties bs) d site []
+      → IsTrue b ↔ KeywordReports schemas below lists header beside (rule word properties bs) d site []
   properties_report = leads_report properties (flat_map (on_child d) bs) (own_found schemas below beside word properties bs d site [] (flat_map (on_child d) bs) [] refl refl refl refl)
 
   pub placed_report : IsTrue b ↔ EachReports below site word (flat_map (on_child d) bs) []
-      → IsTrue b ↔ KeywordReports schemas below lists location beside (rule word placed bs) d site []
+      → IsTrue b ↔ KeywordReports schemas below lists header beside (rule word placed bs) d site []
   placed_report = leads_report placed (flat_map (on_child d) bs) (own_found schemas below beside word placed bs d site [] (flat_map (on_child d) bs) [] refl refl refl refl)
 
   pub other_items_report : (from : ℕ) → from ≡ placed_count beside → IsTrue b ↔ EachReports below site word (flat_map (on_items (drop from (placed_items d))) bs) []
-      → IsTrue b ↔ KeywordReports schemas below lists location beside (rule word other_items bs) d site []
+      → IsTrue b ↔ KeywordReports schemas below lists header beside (rule word other_items bs) d site []
   other_items_report from is says = let ts = flat_map (on_items (drop (placed_count beside) (placed_items d))) bs in
       leads_report other_items ts (own_found schemas below beside word other_items bs d site [] ts [] refl refl refl refl)
       (subst (λ n. IsTrue b ↔ EachReports below site word (flat_map (on_items (drop n (placed_items d))) bs) []) is says)

@@ -12,7 +12,9 @@ use Rattle.neldrafi_schema.specs.declared.node.Node.{Node}
 use Rattle.neldrafi_schema.specs.declared.places.ScopedPlace.{ScopedPlace}
 use Rattle.neldrafi_schema.specs.declared.places.Places.{Places}
 use Rattle.neldrafi_schema.specs.declared.problem.Problem.{Problem}
+use Rattle.neldrafi_schema.specs.Headers.{header_at}
 use Rattle.neldrafi_schema.specs.Paths.{Path, document, location_of}
+use Rattle.neldrafi_schema.specs.machine.Compiled.{header_of}
 use Rattle.neldrafi_schema.specs.Reading.{BodySays, SchemaSays, Says, numbered_by, paths_in}
 use Rattle.neldrafi_schema.specs.Refusals.{IsSaid, IsRefused, ends, problems, body_problems, schemas_endless, refused}
 use Rattle.neldrafi_schema.specs.Schemas.{Schema}
@@ -67,7 +69,7 @@ module _ {E : Type 0} (outcome : E → List ℕ → Outcome) (s : Settings) (doc
     pub within : i ≤ length places.places.items
     pub said : List Schema
     pub count : length said ≡ i
-    pub located : map (λ t. t.location) said ≡ map location_of (take i (paths_of places.places.items))
+    pub headed : map (λ t. t.header) said ≡ map (header_at settled.draft documents) (take i (paths_of places.places.items))
     pub compiled : schemas_of outcome nodes ≡ map meaningful_schema said
     pub each : (all : List ScopedPath) → Extends (scoped_paths places.places.items) all → (n : ℕ) (at : ScopedPath) (t : Schema) → slice_get all n ≡ Some at
         → slice_get said n ≡ Some t → SchemaSays all settled documents at t.body
@@ -84,7 +86,7 @@ module _ {E : Type 0} (outcome : E → List ℕ → Outcome) (s : Settings) (doc
     within = omega arith;
     said = [];
     count = refl;
-    located = refl;
+    headed = refl;
     compiled = refl;
     each = λ all extends n at t there e. cc;
     kept = nothing (paths_of places.places.items);
@@ -99,7 +101,7 @@ module _ {E : Type 0} (outcome : E → List ℕ → Outcome) (s : Settings) (doc
       (reads : (let scope = entered settled.draft documents (scope_of place.scope.items) (place_path place.place) in
       Reads outcome s.lists (λ numbered body. BodySays numbered settled documents scope (place_path place.place) (view place.place.value.now) body) scope
       (place_path place.place) (scoped_paths next.places.items) first after node.body))
-      (located : node.location ≡ location_of (place_path place.place)) (longer : more ≡ nodes ++ node ∷ []) where
+      (headed : header_of node.header ≡ header_at settled.draft documents (place_path place.place)) (longer : more ≡ nodes ++ node ∷ []) where
     abbrev old_scoped : List ScopedPath
     old_scoped = scoped_paths places.places.items
 
@@ -119,7 +121,7 @@ module _ {E : Type 0} (outcome : E → List ℕ → Outcome) (s : Settings) (doc
     path = place_path place.place
 
     abbrev schema : Schema
-    schema = record { location = location_of path; body = reads.said }
+    schema = record { header = header_at settled.draft documents path; body = reads.said }
 
     scoped_found : slice_get old_scoped i ≡ Some at
     scoped_found = slice_get-map scoped_path places.places.items i ∙ ap (option_map scoped_path) there
@@ -178,10 +180,10 @@ module _ {E : Type 0} (outcome : E → List ℕ → Outcome) (s : Settings) (doc
           omega (arith, last, paths_count next.places.items);
       said = read.said ++ schema ∷ [];
       count = length-append read.said (schema ∷ []) ∙ ap (λ n. n + 1) read.count;
-      located = map-append (λ t. t.location) read.said (schema ∷ []) ∙ ap (λ l. l ++ location_of path ∷ []) read.located
-          ∙ sym (map-append location_of (take i old_paths) (path ∷ [])) ∙ ap (map location_of) (sym all_paths);
+      headed = map-append (λ t. t.header) read.said (schema ∷ []) ∙ ap (λ l. l ++ header_at settled.draft documents path ∷ []) read.headed
+          ∙ sym (map-append (header_at settled.draft documents) (take i old_paths) (path ∷ [])) ∙ ap (map (header_at settled.draft documents)) (sym all_paths);
       compiled = ap (schemas_of outcome) longer ∙ map-append (schema_of outcome) nodes (node ∷ [])
-          ∙ ap₂ (λ a b. a ++ b ∷ []) read.compiled (ap₂ (λ l b. record { location = l; body = b }) located reads.same)
+          ∙ ap₂ (λ a b. a ++ b ∷ []) read.compiled (ap₂ (λ h b. record { header = h; body = b }) headed reads.same)
           ∙ sym (map-append meaningful_schema read.said (schema ∷ []));
       each = λ all extends n other t e f. each_more all extends n other t e (at_end read.said schema t n f);
       kept = subst (λ l. IsKept l after) (sym problems_then) (reads.notes.kept (problems old_paths read.said) read.kept);
@@ -206,7 +208,7 @@ module _ {E : Type 0} (outcome : E → List ℕ → Outcome) (s : Settings) (doc
     pub all_said : Says s documents read.said
     all_said = record {
       paths = scoped_all;
-      located = read.located ∙ ap (map location_of) (take_all i paths_found (omega (arith, count_is)));
+      headed = read.headed ∙ ap (map (header_at settled.draft documents)) (take_all i paths_found (omega (arith, count_is)));
       root = read.root;
       each = read.each scoped_all (extends_itself scoped_all);
     }

@@ -16,8 +16,9 @@ use Rattle.neldrafi_schema.specs.machine.Ready.{steps_for}
 use Rattle.neldrafi_schema.specs.machine.Sound.{AreSound, IsSoundBody}
 use Rattle.neldrafi_schema.specs.Refusals.{ends, schema_ends}
 use Rattle.neldrafi_schema.proofs.Fitting.{Fits, IsBodyFine, IsKeywordFine, body_fits, body_fits_too}
-use Rattle.neldrafi_schema.proofs.Evaluation.{besides_too, unevaluated_fine, unevaluated_too}
+use Rattle.neldrafi_schema.proofs.Spanning.{besides_too, unevaluated_fine, unevaluated_too}
 use Rattle.neldrafi_schema.proofs.Within.{Hold, both_hold}
+use Rattle.neldrafi_schema.specs.Schemas.{Header}
 
 -- the same is said below, where it is fine
 abbrev Alike : (ℕ → Data → Type 0) → Below → Below → Type 0
@@ -45,10 +46,10 @@ module _ (schemas : List Schema) (lists : Lists) (Fine : ℕ → Data → Type 0
   each_too site word (t ∷ ts) es fine (a, b, p, q, e) =
       (a, b, (same t.schema t.value (site_of site word t) a fine.0).0 p, each_too site word ts b fine.1 q, e)
 
-  keyword_too : (location : List ℕ) (beside : List Keyword) (k : Keyword) (d : Data) (site : Site) (es : List Error) → AllByRecursion (IsKeywordFine Fine d beside) beside
+  keyword_too : (header : Header) (beside : List Keyword) (k : Keyword) (d : Data) (site : Site) (es : List Error) → AllByRecursion (IsKeywordFine Fine d beside) beside
       → IsKeywordFine Fine d beside k
-      → KeywordReports schemas below lists location beside k d site es → KeywordReports schemas other lists location beside k d site es
-  keyword_too location beside (rule word r bs) d site es all fine (vs, l, a, v, c, p, e) =
+      → KeywordReports schemas below lists header beside k d site es → KeywordReports schemas other lists header beside k d site es
+  keyword_too header beside (rule word r bs) d site es all fine (vs, l, a, v, c, p, e) =
       let back = verdicts_back in
       let evaluated : (s : Segment) → OneOf (BesideEvaluates schemas below beside d s) beside ↔ OneOf (BesideEvaluates schemas other beside d s) beside =
       λ s. (besides_too Fine below other (verdicts_too root_site) schemas closed beside d s beside all, besides_too Fine other below back schemas closed beside d s beside all) in (
@@ -61,35 +62,35 @@ module _ (schemas : List Schema) (lists : Lists) (Fine : ℕ → Data → Type 0
             (both_hold Fine (applied beside r bs d vs) (flat_map (on_each l) bs) (fine.1 vs) (unevaluated_fine schemas below Fine beside d (part_of r) bs l c fine.2)) p,
         e,
       )
-  keyword_too location beside (string_keyword asserted) d site es all fine p = p
-  keyword_too location beside (malformed path why) d site es all fine p = p
+  keyword_too header beside (string_keyword word asserted) d site es all fine p = p
+  keyword_too header beside (malformed path why) d site es all fine p = p
 
-  keywords_too : (location : List ℕ) (beside ks : List Keyword) (d : Data) (site : Site) (es : List Error) → AllByRecursion (IsKeywordFine Fine d beside) beside
+  keywords_too : (header : Header) (beside ks : List Keyword) (d : Data) (site : Site) (es : List Error) → AllByRecursion (IsKeywordFine Fine d beside) beside
       → AllByRecursion (IsKeywordFine Fine d beside) ks
-      → KeywordsReport schemas below lists location beside ks d site es → KeywordsReport schemas other lists location beside ks d site es
-  keywords_too location beside [] d site es all fine p = p
-  keywords_too location beside (k ∷ ks) d site es all fine (a, b, p, q, e) =
-      (a, b, keyword_too location beside k d site a all fine.0 p, keywords_too location beside ks d site b all fine.1 q, e)
+      → KeywordsReport schemas below lists header beside ks d site es → KeywordsReport schemas other lists header beside ks d site es
+  keywords_too header beside [] d site es all fine p = p
+  keywords_too header beside (k ∷ ks) d site es all fine (a, b, p, q, e) =
+      (a, b, keyword_too header beside k d site a all fine.0 p, keywords_too header beside ks d site b all fine.1 q, e)
 
-  schema_too : (location : List ℕ) (body : Body) (d : Data) (site : Site) (es : List Error) → IsBodyFine Fine d body
-      → SchemaReports schemas below lists location body d site es → SchemaReports schemas other lists location body d site es
-  schema_too location always d site es fine p = p
-  schema_too location never d site es fine p = p
-  schema_too location (keywords ks) d site es fine p = keywords_too location ks ks d site es fine fine p
-  schema_too location neither d site es fine p = p
+  schema_too : (header : Header) (body : Body) (d : Data) (site : Site) (es : List Error) → IsBodyFine Fine d body
+      → SchemaReports schemas below lists header body d site es → SchemaReports schemas other lists header body d site es
+  schema_too header always d site es fine p = p
+  schema_too header never d site es fine p = p
+  schema_too header (keywords ks) d site es fine p = keywords_too header ks ks d site es fine fine p
+  schema_too header neither d site es fine p = p
 
 module _ (schemas : List Schema) (lists : Lists) (sound : AreSound schemas) where
   module _ (k j s : ℕ) (d : Data) (fits : steps_for (length schemas) d (suc s) ≤ suc k)
       (same : Alike (Fits schemas sound k) (Reports schemas lists k) (Reports schemas lists j)) where
     there_alike : (o : Option Schema) (site : Site) (es : List Error) → ((t : Schema) → o ≡ Some t → IsSoundBody (length schemas) t.body)
         → schema_ends (ends schemas s) o ≡ true
-        → MatchOption o ⊥ (λ t. SchemaReports schemas (Reports schemas lists k) lists t.location t.body d site es)
-        ↔ MatchOption o ⊥ (λ t. SchemaReports schemas (Reports schemas lists j) lists t.location t.body d site es)
+        → MatchOption o ⊥ (λ t. SchemaReports schemas (Reports schemas lists k) lists t.header t.body d site es)
+        ↔ MatchOption o ⊥ (λ t. SchemaReports schemas (Reports schemas lists j) lists t.header t.body d site es)
     there_alike None site es good e = absurd (false≢true e)
     there_alike (Some t) site es good e = let fine = body_fits schemas sound k s d fits t.body (good t refl) e in (
-      schema_too schemas lists (Fits schemas sound k) (Reports schemas lists k) (Reports schemas lists j) same (body_fits_too schemas sound k) t.location t.body d site es fine,
+      schema_too schemas lists (Fits schemas sound k) (Reports schemas lists k) (Reports schemas lists j) same (body_fits_too schemas sound k) t.header t.body d site es fine,
       schema_too schemas lists (Fits schemas sound k) (Reports schemas lists j) (Reports schemas lists k)
-          (turned (Fits schemas sound k) (Reports schemas lists k) (Reports schemas lists j) same) (body_fits_too schemas sound k) t.location t.body d site es fine,
+          (turned (Fits schemas sound k) (Reports schemas lists k) (Reports schemas lists j) same) (body_fits_too schemas sound k) t.header t.body d site es fine,
     )
 
   pub reports_alike : (k j : ℕ) → k ≤ j → Alike (Fits schemas sound k) (Reports schemas lists k) (Reports schemas lists j)

@@ -24,12 +24,14 @@ use Rattle.neldrafi_schema.specs.Errors.{Kind}
 use Rattle.neldrafi_schema.specs.Meaning.{AreLeft, AreUnevaluated, AreVerdicts, Below, BesideEvaluates, BodyEvaluates, Evaluates, Evaluating, KeywordEvaluates, OneOf, TargetEvaluates, root_site}
 use Rattle.neldrafi_schema.specs.Paths.{Segment, key, place, document}
 use Rattle.neldrafi_schema.specs.Refusals.{ends}
-use Rattle.neldrafi_schema.specs.Rules.{Child, Target, applied, counts_nothing, is_of_part, kinds, left_kinds, on_each, part_of, tested, valid_of}
+use Rattle.neldrafi_schema.specs.Rules.{Child, Target, applied, counts_nothing, is_of_part, kinds, left_kinds, on_each, part_of, reached, tested}
 use Rattle.neldrafi_schema.specs.Schemas.{Branch, Keyword, Rule, Schema, keywords, rule, unevaluated}
 use Rattle.neldrafi_schema.specs.machine.Compiled.{body_of, children_of, keyword_of, rule_of, schemas_of, step_of}
+use Rattle.neldrafi_schema.specs.Annotations.{annotated}
+use Rattle.neldrafi_schema.specs.machine.Annotated.{AreAnnotated}
 use Rattle.neldrafi_schema.specs.machine.Left.{AreFindings, AreSpans, Takes, same_segment}
 use Rattle.neldrafi_schema.proofs.Endings.{ends_inside, ends_some, schema_there}
-use Rattle.neldrafi_schema.proofs.Evaluation.{left_too}
+use Rattle.neldrafi_schema.proofs.Spanning.{left_too}
 use Rattle.neldrafi_schema.proofs.Taking.{left_filtered, left_none}
 
 -- a rule that speaks of no children that are left
@@ -56,8 +58,18 @@ module _ (schemas : List Schema) (below : Below) (beside : List Keyword) (word :
   )
 
   pub some_spanned : counts_nothing r ≡ false → (vs : List Bool) (ts : List Target) → AreVerdicts below root_site word (tested r bs d) vs
-      → ts ≡ valid_of (tested r bs d) vs ++ applied beside r bs d vs → AreSpans below beside (rule word r bs) d ts
+      → ts ≡ reached beside r bs d vs → AreSpans below beside (rule word r bs) d ts
   some_spanned e vs ts tests same = (vs, tests, rw e same)
+
+  pub own_annotated : (site : Site) (ts : List Target) (vs : List Bool) → part_of r ≡ None → AreVerdicts below site word (tested r bs d) vs
+      → ts ≡ annotated beside r bs d vs → AreAnnotated schemas below beside (rule word r bs) d site ts
+  own_annotated site ts vs none tests same = (
+    vs,
+    [],
+    tests,
+    rw none refl,
+    same ∙ sym (ap (λ us. annotated beside r bs d vs ++ us) (none_on_each bs) ∙ append-nil (annotated beside r bs d vs)),
+  )
 
   -- ---- what is taken
 
@@ -77,6 +89,11 @@ pub left_found : (schemas : List Schema) (below : Below) (beside : List Keyword)
     → AreFindings schemas below beside (rule word (unevaluated x) bs) d site found ts
 left_found schemas below beside word x bs d site found ts left rest e f = ([], left, refl, rest, e, f)
 
+pub left_annotated : (schemas : List Schema) (below : Below) (beside : List Keyword) (word : List ℕ) (x : Part) (bs : List Branch) (d : Data) (site : Site) (ts : List Target)
+    (left : List Child) → AreUnevaluated schemas below beside d (Some x) left → ts ≡ flat_map (on_each left) bs
+    → AreAnnotated schemas below beside (rule word (unevaluated x) bs) d site ts
+left_annotated schemas below beside word x bs d site ts left rest same = ([], left, refl, rest, same)
+
 -- all of a part
 pub part_left : (below : Below) (inner : Segment → Evaluating) (beside : List Keyword) (word : List ℕ) (x : Part) (bs : List Branch) (d : Data) (cs l : List Child)
     → AreLeft (λ s. is_of_part x s ≡ true) cs l → AreLeft (λ s. KeywordEvaluates below (inner s) beside d s (rule word (unevaluated x) bs)) cs l
@@ -94,12 +111,12 @@ module _ {E : Type 0} (outcome : E → List ℕ → Outcome) (below : Below) (be
   pub text_left : (inner : Segment → Evaluating) (k : CompiledKeyword E) → NoRule k → (cs : List Child)
       → AreLeft (λ s. KeywordEvaluates below (inner s) beside d s (keyword_of outcome k)) cs cs
   text_left inner (keyword.Rule r) other cs = absurd (other r refl)
-  text_left inner (keyword.Text v) other cs = left_none (λ s. ⊥) (λ s p. p) cs
+  text_left inner (keyword.Text k v) other cs = left_none (λ s. ⊥) (λ s p. p) cs
 
   pub text_beside : (schemas : List Schema) (k : CompiledKeyword E) → NoRule k → (cs : List Child)
       → AreLeft (λ s. BesideEvaluates schemas below beside d s (keyword_of outcome k)) cs cs
   text_beside schemas (keyword.Rule r) other cs = absurd (other r refl)
-  text_beside schemas (keyword.Text v) other cs = left_none (λ s. ⊥) (λ s p. p) cs
+  text_beside schemas (keyword.Text k v) other cs = left_none (λ s. ⊥) (λ s p. p) cs
 
 -- a target inside the instance, or the instance
 module _ (inner : Segment → Evaluating) (t : Target) (cs l : List Child) where

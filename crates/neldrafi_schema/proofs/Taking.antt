@@ -13,7 +13,7 @@ use Rattle.neldrafi_schema.specs.Schemas.{Keyword, rule, Rule, Branch, Schema}
 use Rattle.neldrafi_schema.specs.Meaning.{AreLeft, AreVerdicts, Below, Evaluating, KeywordEvaluates, OneOf, Reports, TargetEvaluates, root_site}
 use Rattle.neldrafi_schema.specs.machine.Left.{AreSpans}
 use Rattle.neldrafi_schema.proofs.Determined.{verdicts_same}
-use Rattle.neldrafi_schema.proofs.Evaluation.{left_too}
+use Rattle.neldrafi_schema.proofs.Spanning.{left_too}
 
 pub left_none : (E : Segment → Type 0) → ((s : Segment) → E s → ⊥) → (cs : List Child) → AreLeft E cs cs
 left_none E none [] = refl

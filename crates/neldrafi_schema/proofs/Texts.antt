@@ -10,18 +10,19 @@ use Rattle.strkw_keywords.specs.Validators.{assertions_of}
 use Rattle.strkw_keywords.specs.declared.validator.Validator.{Validator}
 use Rattle.neldrafi_schema.specs.Errors.{of_text}
 use Rattle.neldrafi_schema.specs.Meaning.{TextReports}
+use Rattle.neldrafi_schema.specs.Schemas.{Header}
 use Rattle.neldrafi_schema.specs.machine.Closures.{IsTextVerdict}
 
-pub no_reports : (rs : List Report) → [] ≡ map of_text rs → rs ≡ []
-no_reports [] e = refl
-no_reports (r ∷ rs) e = cc
+pub no_reports : (at : List ℕ) (rs : List Report) → [] ≡ map (of_text at) rs → rs ≡ []
+no_reports at [] e = refl
+no_reports at (r ∷ rs) e = cc
 
 -- a string keyword reports nothing of a schema just where it reports nothing of the text
 nothing_alike : (lists : Lists) (asserted : List Assertion) (text : Option (List ℕ)) (b : Bool) → ((site : Site) → IsTrue b ↔ NodeReports asserted lists site text [])
-    → (site : Site) → IsTrue b ↔ TextReports lists asserted text site []
-nothing_alike lists asserted text b h site = (
+    → (header : Header) (word : List ℕ) (site : Site) → IsTrue b ↔ TextReports lists header word asserted text site []
+nothing_alike lists asserted text b h header word site = (
   λ t. ([], (h site).0 t, refl),
-  λ (rs, reported, e). (h site).1 (subst (NodeReports asserted lists site text) (no_reports rs e) reported),
+  λ (rs, reported, e). (h site).1 (subst (NodeReports asserted lists site text) (no_reports _ rs e) reported),
 )
 
 pub is_verdict : {E X : Type 0} (outcome : E → List ℕ → Outcome) (lists : Lists) (v : Validator E) (text : Option (List ℕ)) (r : Result Bool X)

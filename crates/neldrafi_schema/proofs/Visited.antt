@@ -11,14 +11,17 @@ use Rattle.neldrafi_schema.specs.Schemas.{Branch, Keyword, Rule, Schema, rule}
 use Rattle.neldrafi_schema.specs.Rules.{Child, Target, applied, kinds, left_kinds, on_each, part_of, tested}
 use Rattle.neldrafi_schema.specs.Meaning.{AreVerdicts, Below, EachReports, KeywordReports, KeywordsReport, error_of, site_of}
 use Rattle.neldrafi_schema.specs.Refusals.{ends, in_place, is_in_place, schemas_in}
+use Rattle.neldrafi_schema.specs.Annotations.{annotated}
+use Rattle.neldrafi_schema.specs.machine.Annotated.{AreAnnotated}
 use Rattle.neldrafi_schema.specs.machine.Left.{AreFindings}
 use Rattle.neldrafi_schema.specs.machine.Ready.{steps_for}
 use Rattle.neldrafi_schema.proofs.Depth.{fewer_steps}
 use Rattle.neldrafi_schema.proofs.Determined.{verdicts_same}
-use Rattle.neldrafi_schema.proofs.Evaluation.{unevaluated_fine, unevaluated_same}
+use Rattle.neldrafi_schema.proofs.Spanning.{unevaluated_fine, unevaluated_same}
 use Rattle.neldrafi_schema.proofs.Fitting.{and_left, and_right, enters_instance}
 use Rattle.neldrafi_schema.proofs.Lists.{nil_left, nil_right}
-use Rattle.neldrafi_schema.proofs.Within.{Deep, Hold, applied_hold, both_hold, left_hold, tested_hold}
+use Rattle.neldrafi_schema.proofs.Within.{Deep, Hold, annotated_hold, applied_hold, both_hold, left_hold, tested_hold}
+use Rattle.neldrafi_schema.specs.Schemas.{Header}
 
 pub holds : (X : Type 0) (b : Bool) → b ≡ true → X → IsTrue b ↔ X
 holds X b e x = (λ t. x, λ y. e)
@@ -33,13 +36,13 @@ nothing_mapped f (x ∷ xs) e = cc
 
 -- ---- one after the other, where the first reports nothing
 
-module _ (schemas : List Schema) (below : Below) (lists : Lists) (location : List ℕ) (beside : List Keyword) (d : Data) (site : Site) (k : Keyword) (ks : List Keyword) where
-  pub keyword_first : KeywordsReport schemas below lists location beside (k ∷ ks) d site [] → KeywordReports schemas below lists location beside k d site []
-  keyword_first (a, b, p, q, e) = subst (λ es. KeywordReports schemas below lists location beside k d site es) (nil_left a b e) p
+module _ (schemas : List Schema) (below : Below) (lists : Lists) (header : Header) (beside : List Keyword) (d : Data) (site : Site) (k : Keyword) (ks : List Keyword) where
+  pub keyword_first : KeywordsReport schemas below lists header beside (k ∷ ks) d site [] → KeywordReports schemas below lists header beside k d site []
+  keyword_first (a, b, p, q, e) = subst (λ es. KeywordReports schemas below lists header beside k d site es) (nil_left a b e) p
 
-  pub keyword_passed : KeywordReports schemas below lists location beside k d site []
-      → KeywordsReport schemas below lists location beside (k ∷ ks) d site [] ↔ KeywordsReport schemas below lists location beside ks d site []
-  keyword_passed p = (λ (a, b, o, q, e). subst (λ es. KeywordsReport schemas below lists location beside ks d site es) (nil_right a b e) q, λ q. ([], [], p, q, refl))
+  pub keyword_passed : KeywordReports schemas below lists header beside k d site []
+      → KeywordsReport schemas below lists header beside (k ∷ ks) d site [] ↔ KeywordsReport schemas below lists header beside ks d site []
+  keyword_passed p = (λ (a, b, o, q, e). subst (λ es. KeywordsReport schemas below lists header beside ks d site es) (nil_right a b e) q, λ q. ([], [], p, q, refl))
 
 module _ (below : Below) (site : Site) (word : List ℕ) (t : Target) (ts : List Target) where
   pub target_first : EachReports below site word (t ∷ ts) [] → below t.schema t.value (site_of site word t) []
@@ -55,13 +58,13 @@ module _ (below : Below) (site : Site) (word : List ℕ) (t : Target) (ts : List
 
 -- ---- a rule, by what is found
 
-module _ (schemas : List Schema) (below : Below) (lists : Lists) (location : List ℕ) (beside : List Keyword) (word : List ℕ) (r : Rule) (bs : List Branch) (d : Data)
+module _ (schemas : List Schema) (below : Below) (lists : Lists) (header : Header) (beside : List Keyword) (word : List ℕ) (r : Rule) (bs : List Branch) (d : Data)
     (site : Site) (found : List Kind) (ts : List Target) where
   abbrev Found : Type 0
   Found = AreFindings schemas below beside (rule word r bs) d site found ts
 
   abbrev Reported : Type 0
-  Reported = KeywordReports schemas below lists location beside (rule word r bs) d site []
+  Reported = KeywordReports schemas below lists header beside (rule word r bs) d site []
 
   abbrev own : List Bool → List Child → List Kind
   own us cs = kinds beside word r d us ++ left_kinds (part_of r) bs cs
@@ -74,7 +77,7 @@ module _ (schemas : List Schema) (below : Below) (lists : Lists) (location : Lis
     tests,
     rest,
     subst (λ us. EachReports below site word us []) same p,
-    sym (ap (λ l. map (error_of location site word d) l ++ []) (sym e ∙ none)),
+    sym (ap (λ l. map (error_of header site word d) l ++ []) (sym e ∙ none)),
   )
 
   pub no_kinds : Found → Reported → found ≡ []
@@ -82,7 +85,7 @@ module _ (schemas : List Schema) (below : Below) (lists : Lists) (location : Lis
       let one : vs ≡ ws = verdicts_same below site word (tested r bs d) vs ws tests w in
       let other : left ≡ l = unevaluated_same schemas below beside d (part_of r) left l rest u in
       e ∙ ap (λ us. own us left) one ∙ ap (own ws) other
-      ∙ nothing_mapped (error_of location site word d) (own ws l) (nil_left (map (error_of location site word d) (own ws l)) later x)
+      ∙ nothing_mapped (error_of header site word d) (own ws l) (nil_left (map (error_of header site word d) (own ws l)) later x)
 
   pub no_targets : Found → Reported → EachReports below site word ts []
   no_targets (vs, left, tests, rest, e, same) (ws, l, later, w, u, p, x) =
@@ -90,7 +93,7 @@ module _ (schemas : List Schema) (below : Below) (lists : Lists) (location : Lis
       let other : l ≡ left = unevaluated_same schemas below beside d (part_of r) l left u rest in
       let none : EachReports below site word (applied beside r bs d ws ++ flat_map (on_each l) bs) [] =
       subst (λ es. EachReports below site word (applied beside r bs d ws ++ flat_map (on_each l) bs) es)
-      (nil_right (map (error_of location site word d) (own ws l)) later x) p in
+      (nil_right (map (error_of header site word d) (own ws l)) later x) p in
       subst (λ us. EachReports below site word us []) (sym same)
       (subst (λ cs. EachReports below site word (applied beside r bs d vs ++ flat_map (on_each cs) bs) []) other
       (subst (λ us. EachReports below site word (applied beside r bs d us ++ flat_map (on_each l) bs) []) one none))
@@ -125,6 +128,14 @@ module _ (schemas : List Schema) (count : ℕ) (word : List ℕ) (r : Rule) (bs 
 
     applied_next : (beside : List Keyword) (vs : List Bool) → Hold IsNext (applied beside r bs d vs)
     applied_next beside vs = applied_hold IsNext d beside r bs vs next_here next_below
+
+    pub annotated_next : (below : Below) (beside : List Keyword) (site : Site) (ts : List Target)
+        → AreAnnotated schemas below beside (rule word r bs) d site ts → Hold IsNext ts
+    annotated_next below beside site ts (vs, left, tests, rest, same) = subst (Hold IsNext) (sym same)
+        (both_hold IsNext (annotated beside r bs d vs) (flat_map (on_each left) bs)
+        (annotated_hold IsNext d beside r bs vs tested_next (applied_next beside vs))
+        (unevaluated_fine schemas below IsNext beside d (part_of r) bs left rest
+        (λ x is cs less. left_hold IsNext d cs bs less (next_below (enters_instance r x is)))))
 
     pub found_next : (below : Below) (beside : List Keyword) (site : Site) (found : List Kind) (ts : List Target)
         → AreFindings schemas below beside (rule word r bs) d site found ts → Hold IsNext ts

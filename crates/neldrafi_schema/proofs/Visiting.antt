@@ -20,12 +20,15 @@ use Rattle.neldrafi_schema.specs.Rules.{tested}
 use Rattle.neldrafi_schema.specs.Meaning.{AreVerdicts, Below, EachReports, KeywordReports, KeywordsReport, Reports, SchemaReports, site_of}
 use Rattle.neldrafi_schema.specs.Refusals.{ends, in_place, is_in_place, keywords_end}
 use Rattle.neldrafi_schema.specs.machine.Compiled.{body_of, branches_of, keyword_of, keywords_of, rule_of, ruled_of, schemas_of, seen_data, target_of, targets_of}
+use Rattle.neldrafi_schema.specs.machine.Annotated.{AreAnnotated}
 use Rattle.neldrafi_schema.specs.machine.Left.{AreFindings}
 use Rattle.neldrafi_schema.specs.machine.Ready.{IsBodyReady, IsKeywordReady, IsReady, IsRuledReady, steps_for}
 use Rattle.neldrafi_schema.proofs.Endings.{all_below, ends_inside, ends_some, keyword_below, reports_there}
 use Rattle.neldrafi_schema.proofs.Lists.{all_at, drop_one}
-use Rattle.neldrafi_schema.proofs.Visited.{found_next, holds, keyword_first, keyword_passed, refutes, target_first, target_passed, tested_next, verdict_first}
+use Rattle.neldrafi_schema.proofs.Visited.{annotated_next, found_next, holds, keyword_first, keyword_passed, refutes, target_first, target_passed, tested_next, verdict_first}
 use Rattle.neldrafi_schema.proofs.Within.{Hold}
+use Rattle.neldrafi_schema.specs.Schemas.{Header}
+use Rattle.neldrafi_schema.specs.machine.Compiled.{header_of}
 
 -- no more steps are left than there are schemas
 pub few_below : (here : Bool) (steps count left : ℕ) → steps ≤ count → left ≡ (if here then steps else count) → left ≤ count
@@ -40,7 +43,7 @@ module _ {E : Type 0} (outcome : E → List ℕ → Outcome) (nodes : List (Node
   module _ (n steps : ℕ) (node : Node E) (is : node ≡ get_or nodes n node) (end : ends (schemas_of outcome nodes) steps n ≡ true) where
     -- they leave one less for its keywords
     pub one_less : (lists : Lists) (d : Data) (k : ℕ) → steps_for (length nodes) d steps ≤ k → (j : ℕ) × (steps_for (length nodes) d (steps - 1) ≤ j)
-        × ((site : Site) (es : List Error) → Within lists k n d site es ≡ SchemaReports (schemas_of outcome nodes) (Within lists j) lists node.location (body_of outcome node.body) d site es)
+        × ((site : Site) (es : List Error) → Within lists k n d site es ≡ SchemaReports (schemas_of outcome nodes) (Within lists j) lists (header_of node.header) (body_of outcome node.body) d site es)
     one_less lists d zero h = absurd (omega (arith, ends_some (schemas_of outcome nodes) steps n end))
     one_less lists d (suc j) h = (
       j,
@@ -50,7 +53,7 @@ module _ {E : Type 0} (outcome : E → List ℕ → Outcome) (nodes : List (Node
 
     -- what is so of its body is so of the schema
     by_body : (lists : Lists) (d : Data) (b : Bool) (k : ℕ) (site : Site) → steps_for (length nodes) d steps ≤ k
-        → ((j : ℕ) → steps_for (length nodes) d (steps - 1) ≤ j → IsTrue b ↔ SchemaReports (schemas_of outcome nodes) (Within lists j) lists node.location (body_of outcome node.body) d site [])
+        → ((j : ℕ) → steps_for (length nodes) d (steps - 1) ≤ j → IsTrue b ↔ SchemaReports (schemas_of outcome nodes) (Within lists j) lists (header_of node.header) (body_of outcome node.body) d site [])
         → IsTrue b ↔ Within lists k n d site []
     by_body lists d b k site h so =
         let (j, less, same) = one_less lists d k h in
@@ -89,38 +92,38 @@ module _ {E : Type 0} (outcome : E → List ℕ → Outcome) (nodes : List (Node
 
       pub keywords_accept : (lists : Lists) (d : Data) (k : ℕ) (site : Site) → steps_for (length nodes) d steps ≤ k
           → ((j : ℕ) → steps_for (length nodes) d (steps - 1) ≤ j
-          → KeywordsReport (schemas_of outcome nodes) (Within lists j) lists node.location (keywords_of outcome items) (keywords_of outcome items) d site [])
+          → KeywordsReport (schemas_of outcome nodes) (Within lists j) lists (header_of node.header) (keywords_of outcome items) (keywords_of outcome items) d site [])
           → IsTrue true ↔ Within lists k n d site []
       keywords_accept lists d k site h so = by_body lists d true k site h (λ j less. rw is_body (holds _ true refl (so j less)))
 
       pub keywords_refuse : (lists : Lists) (d : Data) (k : ℕ) (site : Site) → steps_for (length nodes) d steps ≤ k
           → ((j : ℕ) → steps_for (length nodes) d (steps - 1) ≤ j
-          → KeywordsReport (schemas_of outcome nodes) (Within lists j) lists node.location (keywords_of outcome items) (keywords_of outcome items) d site [] → ⊥)
+          → KeywordsReport (schemas_of outcome nodes) (Within lists j) lists (header_of node.header) (keywords_of outcome items) (keywords_of outcome items) d site [] → ⊥)
           → IsTrue false ↔ Within lists k n d site []
       keywords_refuse lists d k site h so = by_body lists d false k site h (λ j less. rw is_body (refutes _ false refl (λ r. absurd (so j less r))))
 
   -- ---- keyword by keyword
 
-  module _ (below : Below) (lists : Lists) (location : List ℕ) (d : Data) (site : Site) (items beside : List (CompiledKeyword E)) (i : ℕ) (key : CompiledKeyword E)
+  module _ (below : Below) (lists : Lists) (header : Header) (d : Data) (site : Site) (items beside : List (CompiledKeyword E)) (i : ℕ) (key : CompiledKeyword E)
       (inside : i < length items) (at : key ≡ get_or items i key) (read : beside ≡ items) (b : Bool)
-      (says : IsTrue b ↔ KeywordReports (schemas_of outcome nodes) below lists location (keywords_of outcome beside) (keyword_of outcome key) d site []) where
+      (says : IsTrue b ↔ KeywordReports (schemas_of outcome nodes) below lists header (keywords_of outcome beside) (keyword_of outcome key) d site []) where
     abbrev All : List (CompiledKeyword E) → Type 0
-    All left = KeywordsReport (schemas_of outcome nodes) below lists location (keywords_of outcome items) (keywords_of outcome items) d site []
-        ↔ KeywordsReport (schemas_of outcome nodes) below lists location (keywords_of outcome items) (keywords_of outcome left) d site []
+    All left = KeywordsReport (schemas_of outcome nodes) below lists header (keywords_of outcome items) (keywords_of outcome items) d site []
+        ↔ KeywordsReport (schemas_of outcome nodes) below lists header (keywords_of outcome items) (keywords_of outcome left) d site []
 
-    its : IsTrue b ↔ KeywordReports (schemas_of outcome nodes) below lists location (keywords_of outcome items) (keyword_of outcome key) d site []
-    its = subst (λ l. IsTrue b ↔ KeywordReports (schemas_of outcome nodes) below lists location (keywords_of outcome l) (keyword_of outcome key) d site []) read says
+    its : IsTrue b ↔ KeywordReports (schemas_of outcome nodes) below lists header (keywords_of outcome items) (keyword_of outcome key) d site []
+    its = subst (λ l. IsTrue b ↔ KeywordReports (schemas_of outcome nodes) below lists header (keywords_of outcome l) (keyword_of outcome key) d site []) read says
 
     pub goes_on : b ≡ true → All (drop i items) → All (drop (i + 1) items)
     goes_on e before =
         let here = subst All (drop_one items i key inside at) before in
-        let passed = keyword_passed (schemas_of outcome nodes) below lists location (keywords_of outcome items) d site (keyword_of outcome key) (keywords_of outcome (drop (i + 1) items)) (its.0 e) in
+        let passed = keyword_passed (schemas_of outcome nodes) below lists header (keywords_of outcome items) d site (keyword_of outcome key) (keywords_of outcome (drop (i + 1) items)) (its.0 e) in
         (λ x. passed.0 (here.0 x), λ y. here.1 (passed.1 y))
 
-    pub stops : b ≡ false → All (drop i items) → KeywordsReport (schemas_of outcome nodes) below lists location (keywords_of outcome items) (keywords_of outcome items) d site [] → ⊥
+    pub stops : b ≡ false → All (drop i items) → KeywordsReport (schemas_of outcome nodes) below lists header (keywords_of outcome items) (keywords_of outcome items) d site [] → ⊥
     stops e before x =
         let here = subst All (drop_one items i key inside at) before in
-        false≢true (sym e ∙ its.1 (keyword_first (schemas_of outcome nodes) below lists location (keywords_of outcome items) d site (keyword_of outcome key) (keywords_of outcome (drop (i + 1) items)) (here.0 x)))
+        false≢true (sym e ∙ its.1 (keyword_first (schemas_of outcome nodes) below lists header (keywords_of outcome items) d site (keyword_of outcome key) (keywords_of outcome (drop (i + 1) items)) (here.0 x)))
 
   -- ---- target by target
 
@@ -144,6 +147,13 @@ module _ {E : Type 0} (outcome : E → List ℕ → Outcome) (nodes : List (Node
     next_tested items i t same = next_at items i t (subst (Hold Next) (sym same)
         (tested_next (schemas_of outcome nodes) (length nodes) (string_bytes ruled.name) (rule_of outcome ruled.rule) (branches_of ruled.branches.items) d steps left
         (all_branches (length nodes) ruled.branches.items this.1) ready.end here is))
+
+    pub next_annotated : (below : Below) (beside : List Keyword) (site : Site) (items : List FoundTarget) (i : ℕ) (t : FoundTarget)
+        → AreAnnotated (schemas_of outcome nodes) below beside (ruled_of outcome ruled) d site (targets_of items)
+        → i < length items → t ≡ get_or items i t → Next t.schema (seen_data t.value)
+    next_annotated below beside site items i t f = next_at items i t
+        (annotated_next (schemas_of outcome nodes) (length nodes) (string_bytes ruled.name) (rule_of outcome ruled.rule) (branches_of ruled.branches.items) d steps left
+        (all_branches (length nodes) ruled.branches.items this.1) ready.end here is below beside site (targets_of items) f)
 
     pub next_found : (below : Below) (beside : List Keyword) (site : Site) (found : List Kind) (items : List FoundTarget) (i : ℕ) (t : FoundTarget)
         → AreFindings (schemas_of outcome nodes) below beside (ruled_of outcome ruled) d site found (targets_of items)

@@ -6,6 +6,7 @@ use Rattle.std.specs.Prelude.{slice_get, if◌then◌else◌}
 use Rattle.std.specs.List.{AllByRecursion, list_all}
 use Rattle.serde_json.specs.Data.{Data, null, boolean, number, string, array, object, Members, no_members, member}
 use Rattle.serde_json.specs.Find.{as_object}
+use Rattle.strkw_keywords.specs.declared.keyword.Keyword.{Keyword as TextKeyword}
 use Rattle.strkw_keywords.specs.Errors.{Assertion}
 use Rattle.strkw_keywords.specs.Object.{Settings}
 use Rattle.strkw_report.specs.Refusals.{Refusal}
@@ -33,7 +34,7 @@ module _ (paths : List Path) where
 
   abbrev pub IsDown : Path → Keyword → Type 0
   IsDown path (rule word r bs) = (is_reference r ≡ true) ⊎ AllByRecursion (λ b. IsDeeper path b.schema) bs
-  IsDown path (string_keyword asserted) = Unit {0}
+  IsDown path (string_keyword word asserted) = Unit {0}
   IsDown path (malformed below why) = Unit {0}
 
   abbrev pub IsBodyDown : Path → Body → Type 0
@@ -61,10 +62,10 @@ module _ (paths : List Path) where
     says_down name (says r leads) ks down (bs, are, e) = rw e (branches_down r leads bs down.down are, tt)
     says_down name (refused why) ks down e = rw e (tt, tt)
 
-    entries_down : (at : Path) (asserted : List Assertion) (o : Option Refusal) (ks : List Keyword) → SaysEntries at asserted o ks → AreDown ks
-    entries_down at asserted (Some r) ks e = rw e (tt, tt)
-    entries_down at asserted None ks (inl e) = rw e (tt, tt)
-    entries_down at asserted None ks (inr (none, e)) = rw e tt
+    entries_down : (at : Path) (k : TextKeyword) (asserted : List Assertion) (o : Option Refusal) (ks : List Keyword) → SaysEntries at k asserted o ks → AreDown ks
+    entries_down at k asserted (Some r) ks e = rw e (tt, tt)
+    entries_down at k asserted None ks (inl e) = rw e (tt, tt)
+    entries_down at k asserted None ks (inr (none, e)) = rw e tt
 
     patterns_down : (at : Path) (name : List ℕ) (ms : Members) (found : Patterns) (ks : List Keyword) → length path < length at
         → PatternsSay numbered at name ms found ks → AreDown ks
@@ -121,7 +122,16 @@ module _ (paths : List Path) where
     known_down s documents scope ms name known.Definitions d ks e = sense_says_down s ms name known.Definitions d ks e
     known_down s documents scope ms name known.Defs d ks e = sense_says_down s ms name known.Defs d ks e
     known_down s documents scope ms name (known.Unevaluated part) d ks e = sense_says_down s ms name (known.Unevaluated part) d ks e
-    known_down s documents scope ms name (known.Text text) d ks e = entries_down _ _ _ ks e.said
+    known_down s documents scope ms name known.Description d ks e = sense_says_down s ms name known.Description d ks e
+    known_down s documents scope ms name known.Default d ks e = sense_says_down s ms name known.Default d ks e
+    known_down s documents scope ms name known.Examples d ks e = sense_says_down s ms name known.Examples d ks e
+    known_down s documents scope ms name known.Comment d ks e = sense_says_down s ms name known.Comment d ks e
+    known_down s documents scope ms name known.Access d ks e = sense_says_down s ms name known.Access d ks e
+    known_down s documents scope ms name known.Deprecated d ks e = sense_says_down s ms name known.Deprecated d ks e
+    known_down s documents scope ms name known.Content d ks e = sense_says_down s ms name known.Content d ks e
+    known_down s documents scope ms name known.Vocabulary d ks e = sense_says_down s ms name known.Vocabulary d ks e
+    known_down s documents scope ms name known.ContentSchema d ks e = sense_says_down s ms name known.ContentSchema d ks e
+    known_down s documents scope ms name (known.Text text) d ks e = entries_down _ _ _ _ ks e.said
     known_down s documents scope ms name known.Unknown d ks e = sense_says_down s ms name known.Unknown d ks e
 
   module _ (numbered : Numbered) (there : (n : ℕ) (path : Path) → numbered n path → slice_get paths n ≡ Some path)
@@ -169,7 +179,7 @@ module _ (paths : List Path) where
           rule_comes word r bs down.0 (nil_first (keyword_endless end path (rule word r bs)) (keywords_endless end path ks) e),
           keywords_come ks down.1 (nil_second (keyword_endless end path (rule word r bs)) (keywords_endless end path ks) e),
         ) refl
-    keywords_come (string_keyword asserted ∷ ks) down e = keywords_come ks down.1 e
+    keywords_come (string_keyword word asserted ∷ ks) down e = keywords_come ks down.1 e
     keywords_come (malformed below why ∷ ks) down e = keywords_come ks down.1 e
 
     body_comes : (body : Body) → IsBodyDown path body → body_endless end path body ≡ [] → body_ends next body ≡ true

@@ -14,6 +14,9 @@ use Rattle.neldrafi_schema.specs.declared.node.Keyword.TheVariants as keyword
 use Rattle.neldrafi_schema.specs.declared.node.Node.{Node}
 use Rattle.neldrafi_schema.specs.declared.node.Rule.{Rule}
 use Rattle.neldrafi_schema.specs.declared.node.Rule.TheVariants as compiled
+use Rattle.neldrafi_schema.specs.declared.annotation.Annotation.{Annotation}
+use Rattle.neldrafi_schema.specs.Annotations.{Annotates, HasAnnotations}
+use Rattle.neldrafi_schema.specs.machine.Annotated.{Annotated, annotations_of}
 use Rattle.neldrafi_schema.specs.Meaning.{HasErrors, Reports, enough, root_site}
 use Rattle.neldrafi_schema.specs.machine.Compiled.{schema_of, schemas_of}
 use Rattle.neldrafi_schema.specs.machine.Found.{Appended, errors_of}
@@ -42,6 +45,16 @@ module _ {E : Type 0} (outcome : E → List ℕ → Outcome) (nodes read : List 
         (subst (λ l. Reports (schemas_of outcome l) lists k 0 d root_site (errors_of a.more)) same
         (subst (λ s. Reports (schemas_of outcome read) lists k 0 d s (errors_of a.more)) root a.said))
 
+    pub whole_annotates : (site : Site) (old new : List Annotation) → site ≡ root_site → old ≡ []
+        → ((k : ℕ) → steps_for (length read) d count ≤ k → Annotated (Annotates (schemas_of outcome read) lists k 0 d site) old new)
+        → HasAnnotations (schemas_of outcome nodes) lists d [] (annotations_of new)
+    whole_annotates site old new root none grown =
+        let k = enough (schemas_of outcome nodes) d in
+        let a = grown k enough_for in
+        subst (λ l. HasAnnotations (schemas_of outcome nodes) lists d [] (annotations_of l)) (sym (a.longer ∙ ap (λ l. l ++ a.more) none))
+        (subst (λ l. Annotates (schemas_of outcome l) lists k 0 d root_site (annotations_of a.more)) same
+        (subst (λ s. Annotates (schemas_of outcome read) lists k 0 d s (annotations_of a.more)) root a.said))
+
   pub ready_alike : (P Q : Validator E → Type 0) → ((v : Validator E) → P v → Q v) → IsReady outcome P nodes → IsReady outcome Q read
   ready_alike P Q alike ready = rw same (record {
     some = ready.some;
@@ -57,7 +70,7 @@ module _ {E : Type 0} (outcome : E → List ℕ → Outcome) (nodes read : List 
 
     key_ready : (key : CompiledKeyword E) → IsKeywordReady outcome P (length nodes) key → IsKeywordReady outcome Q (length nodes) key
     key_ready (keyword.Rule r) p = (rule_ready r.rule p.0, p.1)
-    key_ready (keyword.Text v) p = alike v p
+    key_ready (keyword.Text k v) p = alike v p
 
     body_ready : (body : Body E) → IsBodyReady outcome P (length nodes) body → IsBodyReady outcome Q (length nodes) body
     body_ready body.Always p = tt

@@ -4,8 +4,9 @@ use Rattle.std.specs.Prelude.{if◌then◌else◌}
 use Rattle.std.specs.List.{AllByRecursion, filter, flat_map, list_all}
 use Rattle.serde_json.specs.Data.{Data, null, boolean, number, string, array, object, Items, no_items, item, Members, no_members, member, depth, items_depth, members_depth}
 use Rattle.strkw_keywords.specs.Errors.{Assertion}
+use Rattle.neldrafi_schema.specs.Annotations.{annotated, annotates_nothing}
 use Rattle.neldrafi_schema.specs.Refusals.{is_in_place}
-use Rattle.neldrafi_schema.specs.Rules.{Child, Target, applied, child_at, counts_nothing, first_of, is_matched, is_present, item_list, member_list, members_in, on_child, on_each, on_items, on_itself, on_matched, on_members, on_names, option_list, other_items_in, other_members_in, others_of, path_of, placed_from, placed_items, spans, target, tested, valid_of}
+use Rattle.neldrafi_schema.specs.Rules.{Child, Target, applied, child_at, counts_nothing, first_of, found_valid, is_choice, reached, is_matched, is_present, item_list, member_list, members_in, on_child, on_each, on_items, on_itself, on_matched, on_members, on_names, option_list, other_items_in, other_members_in, others_of, path_of, placed_from, placed_items, spans, target, tested, valid_of}
 use Rattle.neldrafi_schema.specs.Schemas.{Rule, types, among, equal_to, limited, multiple_of, sized, distinct, required, reference, all_of, dependent, properties, matching, other_members, no_other_members, member_names, placed, other_items, no_other_items, negation, any_of, one_of, contains, where_valid, where_not_valid, condition, unevaluated, held, Branch, Keyword}
 use Rattle.neldrafi_schema.proofs.Depth.{child_depth}
 
@@ -188,10 +189,18 @@ module _ (P : ℕ → Data → Type 0) where
     valid_hold (t ∷ ts) (true ∷ vs) all = (all.0, valid_hold ts vs all.1)
     valid_hold (t ∷ ts) (false ∷ vs) all = valid_hold ts vs all.1
 
+    pub reached_hold : (beside : List Keyword) (r : Rule) (bs : List Branch) (vs : List Bool) → Hold (tested r bs d) → Hold (applied beside r bs d vs)
+        → Hold (reached beside r bs d vs)
+    reached_hold beside r bs vs by_tests by_rule = both_hold (found_valid r bs d vs) (applied beside r bs d vs)
+        (chosen_hold (is_choice r) [] _ tt (valid_hold (tested r bs d) vs by_tests)) by_rule
+
     pub spans_hold : (beside : List Keyword) (r : Rule) (bs : List Branch) (vs : List Bool) → Hold (tested r bs d) → Hold (applied beside r bs d vs)
         → Hold (spans beside r bs d vs)
-    spans_hold beside r bs vs by_tests by_rule = chosen_hold (counts_nothing r) [] _ tt
-        (both_hold (valid_of (tested r bs d) vs) (applied beside r bs d vs) (valid_hold (tested r bs d) vs by_tests) by_rule)
+    spans_hold beside r bs vs by_tests by_rule = chosen_hold (counts_nothing r) [] _ tt (reached_hold beside r bs vs by_tests by_rule)
+
+    pub annotated_hold : (beside : List Keyword) (r : Rule) (bs : List Branch) (vs : List Bool) → Hold (tested r bs d) → Hold (applied beside r bs d vs)
+        → Hold (annotated beside r bs d vs)
+    annotated_hold beside r bs vs by_tests by_rule = chosen_hold (annotates_nothing r) [] _ tt (reached_hold beside r bs vs by_tests by_rule)
 
     each_hold : (cs : List Child) (b : Branch) → AllByRecursion (λ c. depth c.1 < depth d) cs → Deep b → Hold (on_each cs b)
     each_hold [] b less deep = tt

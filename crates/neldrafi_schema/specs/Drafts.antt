@@ -42,9 +42,9 @@ draft_of otherwise document = unwrap_or
 abbrev pub reference_name : List ℕ
 reference_name = codes "$ref"
 
--- the keyword of a name, in whichever draft
-abbrev pub named : List ℕ → Known
-named name =
+-- the keyword of a name in Core, section 8, in whichever draft
+unfoldable pub core_named : List ℕ → Known
+core_named name =
     if bytes_eq name (codes "$schema") then known.Dialect
     else (if bytes_eq name reference_name then known.Reference
     else (if bytes_eq name (codes "id") then known.Draft4Identifier
@@ -54,7 +54,40 @@ named name =
     else (if bytes_eq name (codes "$dynamicAnchor") then known.DynamicAnchor
     else (if bytes_eq name (codes "$recursiveRef") then known.RecursiveReference
     else (if bytes_eq name (codes "$recursiveAnchor") then known.RecursiveAnchor
-    else (if bytes_eq name (codes "type") then known.Types
+    else (if bytes_eq name (codes "definitions") then known.Definitions
+    else (if bytes_eq name (codes "$defs") then known.Defs
+    else (if bytes_eq name (codes "$comment") then known.Comment
+    else (if bytes_eq name (codes "$vocabulary") then known.Vocabulary
+    else known.Unknown))))))))))))
+
+-- and of Core, sections 10 and 11
+unfoldable pub applicator_named : List ℕ → Known
+applicator_named name =
+    if bytes_eq name (codes "dependencies") then known.Dependencies
+    else (if bytes_eq name (codes "properties") then known.Properties
+    else (if bytes_eq name (codes "patternProperties") then known.PatternProperties
+    else (if bytes_eq name (codes "additionalProperties") then known.AdditionalProperties
+    else (if bytes_eq name (codes "propertyNames") then known.PropertyNames
+    else (if bytes_eq name (codes "items") then known.Items
+    else (if bytes_eq name (codes "additionalItems") then known.AdditionalItems
+    else (if bytes_eq name (codes "contains") then known.Contains
+    else (if bytes_eq name (codes "prefixItems") then known.PrefixItems
+    else (if bytes_eq name (codes "dependentSchemas") then known.DependentSchemas
+    else (if bytes_eq name (codes "unevaluatedProperties") then known.Unevaluated part.Members
+    else (if bytes_eq name (codes "unevaluatedItems") then known.Unevaluated part.Items
+    else (if bytes_eq name (codes "allOf") then known.AllOf
+    else (if bytes_eq name (codes "anyOf") then known.AnyOf
+    else (if bytes_eq name (codes "oneOf") then known.OneOf
+    else (if bytes_eq name (codes "not") then known.Not
+    else (if bytes_eq name (codes "if") then known.If
+    else (if bytes_eq name (codes "then") then known.Then
+    else (if bytes_eq name (codes "else") then known.Else
+    else core_named name))))))))))))))))))
+
+-- the keyword of a name, in whichever draft: the others are of Validation
+abbrev pub named : List ℕ → Known
+named name =
+    if bytes_eq name (codes "type") then known.Types
     else (if bytes_eq name (codes "enum") then known.Enumeration
     else (if bytes_eq name (codes "const") then known.Constant
     else (if bytes_eq name (codes "multipleOf") then known.MultipleOf
@@ -68,35 +101,24 @@ named name =
     else (if bytes_eq name (codes "maxProperties") then known.Sized size.MaxProperties
     else (if bytes_eq name (codes "uniqueItems") then known.UniqueItems
     else (if bytes_eq name (codes "required") then known.Required
-    else (if bytes_eq name (codes "dependencies") then known.Dependencies
-    else (if bytes_eq name (codes "properties") then known.Properties
-    else (if bytes_eq name (codes "patternProperties") then known.PatternProperties
-    else (if bytes_eq name (codes "additionalProperties") then known.AdditionalProperties
-    else (if bytes_eq name (codes "propertyNames") then known.PropertyNames
-    else (if bytes_eq name (codes "items") then known.Items
-    else (if bytes_eq name (codes "additionalItems") then known.AdditionalItems
-    else (if bytes_eq name (codes "contains") then known.Contains
     else (if bytes_eq name (codes "minContains") then known.ContainsCount
     else (if bytes_eq name (codes "maxContains") then known.ContainsCount
-    else (if bytes_eq name (codes "prefixItems") then known.PrefixItems
     else (if bytes_eq name (codes "dependentRequired") then known.DependentRequired
-    else (if bytes_eq name (codes "dependentSchemas") then known.DependentSchemas
-    else (if bytes_eq name (codes "unevaluatedProperties") then known.Unevaluated part.Members
-    else (if bytes_eq name (codes "unevaluatedItems") then known.Unevaluated part.Items
-    else (if bytes_eq name (codes "allOf") then known.AllOf
-    else (if bytes_eq name (codes "anyOf") then known.AnyOf
-    else (if bytes_eq name (codes "oneOf") then known.OneOf
-    else (if bytes_eq name (codes "not") then known.Not
-    else (if bytes_eq name (codes "if") then known.If
-    else (if bytes_eq name (codes "then") then known.Then
-    else (if bytes_eq name (codes "else") then known.Else
-    else (if bytes_eq name (codes "definitions") then known.Definitions
-    else (if bytes_eq name (codes "$defs") then known.Defs
     else (if bytes_eq name (keyword_name text.Format) then known.Text text.Format
     else (if bytes_eq name (keyword_name text.MinLength) then known.Text text.MinLength
     else (if bytes_eq name (keyword_name text.MaxLength) then known.Text text.MaxLength
     else (if bytes_eq name (keyword_name text.Pattern) then known.Text text.Pattern
-    else known.Unknown))))))))))))))))))))))))))))))))))))))))))))))))))
+    else (if bytes_eq name (codes "title") then known.Description
+    else (if bytes_eq name (codes "description") then known.Description
+    else (if bytes_eq name (codes "default") then known.Default
+    else (if bytes_eq name (codes "examples") then known.Examples
+    else (if bytes_eq name (codes "readOnly") then known.Access
+    else (if bytes_eq name (codes "writeOnly") then known.Access
+    else (if bytes_eq name (codes "deprecated") then known.Deprecated
+    else (if bytes_eq name (codes "contentEncoding") then known.Content
+    else (if bytes_eq name (codes "contentMediaType") then known.Content
+    else (if bytes_eq name (codes "contentSchema") then known.ContentSchema
+    else applicator_named name))))))))))))))))))))))))))))))
 
 -- drafts in their order
 abbrev pub draft_number : Draft → ℕ
@@ -112,9 +134,13 @@ since known.Identifier = Draft6
 since known.Constant = Draft6
 since known.PropertyNames = Draft6
 since known.Contains = Draft6
+since known.Examples = Draft6
 since known.If = Draft7
 since known.Then = Draft7
 since known.Else = Draft7
+since known.Comment = Draft7
+since known.Access = Draft7
+since known.Content = Draft7
 since known.Anchor = Draft201909
 since known.RecursiveReference = Draft201909
 since known.RecursiveAnchor = Draft201909
@@ -123,6 +149,9 @@ since known.DependentRequired = Draft201909
 since known.DependentSchemas = Draft201909
 since known.Defs = Draft201909
 since (known.Unevaluated p) = Draft201909
+since known.Deprecated = Draft201909
+since known.ContentSchema = Draft201909
+since known.Vocabulary = Draft201909
 since known.PrefixItems = Draft202012
 since known.DynamicReference = Draft202012
 since known.DynamicAnchor = Draft202012
@@ -139,6 +168,31 @@ until keyword = Draft202012
 abbrev pub has_keyword : Draft → Known → Bool
 has_keyword draft keyword = nat_le (draft_number (since keyword)) (draft_number draft)
     && nat_le (draft_number draft) (draft_number (until keyword))
+
+abbrev pub is_unknown : Known → Bool
+is_unknown known.Unknown = true
+is_unknown other = false
+
+-- whether a draft has a keyword of a name
+abbrev pub is_keyword : Draft → List ℕ → Bool
+is_keyword draft name = not (is_unknown (named name)) && has_keyword draft (named name)
+
+-- an annotation of strings alone (Validation 2020-12, sections 7.1 and 8.2)
+abbrev pub is_of_texts : Known → Bool
+is_of_texts (known.Text text.Format) = true
+is_of_texts known.Content = true
+is_of_texts known.ContentSchema = true
+is_of_texts other = false
+
+-- a keyword whose value annotates instances (Core 2020-12, section 7.7; Validation 2020-12,
+-- sections 7 to 9)
+abbrev pub is_annotation : Known → Bool
+is_annotation known.Description = true
+is_annotation known.Default = true
+is_annotation known.Examples = true
+is_annotation known.Access = true
+is_annotation known.Deprecated = true
+is_annotation other = is_of_texts other
 
 -- whether a draft has keywords that speak of what is evaluated
 abbrev pub has_unevaluated : Draft → Bool

@@ -34,36 +34,42 @@ pub data Kind : Type 0 where
   unevaluated_members : List (List ℕ) → Kind
   unevaluated_items : List Data → Kind
 
--- the locations are JSON pointers; that of evaluation has the way through references
+-- the locations are JSON pointers, and the absolute one a URI; that of evaluation has the way through
+-- references
 pub record Found : Type 0 where
   pub kind : Kind
   pub instance : Data
   pub schema_path : List ℕ
   pub evaluation_path : List ℕ
   pub instance_path : List ℕ
+  pub absolute : List ℕ
 
 pub data Error : Type 0 where
   found : Found → Error
-  -- of a string keyword, as `strkw_keywords` reports it
-  of_text : Report → Error
+  -- of the string keyword at an absolute location, as `strkw_keywords` reports it
+  of_text : List ℕ → Report → Error
 
 -- ---- what an error says of places
 
 abbrev pub instance_of : Error → Data
 instance_of (found f) = f.instance
-instance_of (of_text r) = string r.instance
+instance_of (of_text at r) = string r.instance
 
 abbrev pub instance_path_of : Error → List ℕ
 instance_path_of (found f) = f.instance_path
-instance_path_of (of_text r) = r.instance_path
+instance_path_of (of_text at r) = r.instance_path
 
 abbrev pub schema_path_of : Error → List ℕ
 schema_path_of (found f) = f.schema_path
-schema_path_of (of_text r) = r.schema_path
+schema_path_of (of_text at r) = r.schema_path
 
 abbrev pub evaluation_path_of : Error → List ℕ
 evaluation_path_of (found f) = f.evaluation_path
-evaluation_path_of (of_text r) = r.evaluation_path
+evaluation_path_of (of_text at r) = r.evaluation_path
+
+abbrev pub absolute_of : Error → List ℕ
+absolute_of (found f) = f.absolute
+absolute_of (of_text at r) = at
 
 -- ---- texts
 
@@ -141,7 +147,7 @@ message (unevaluated_items ds) x = codes "Unevaluated items are not allowed ("
 
 abbrev pub text_of : Error → List ℕ
 text_of (found f) = message f.kind (compact_text f.instance)
-text_of (of_text r) = report_text r
+text_of (of_text at r) = report_text r
 
 -- a float has no stated digits
 abbrev pub kind_holds_float : Kind → Bool
@@ -157,4 +163,4 @@ kind_holds_float other = false
 -- whether the text of an error prints one
 abbrev pub prints_float : Error → Bool
 prints_float (found f) = has_float f.instance || kind_holds_float f.kind
-prints_float (of_text r) = false
+prints_float (of_text at r) = false

@@ -12,8 +12,12 @@ pub mod Scopes
 pub mod References
 pub mod Drafts
 pub mod Values
+pub mod Locations
+pub mod Headers
 pub mod Settings
 pub mod Reading
 pub mod Meaning
 pub mod Refusals
+pub mod Annotations
+pub mod Unknown
 pub mod machine

@@ -1,6 +1,6 @@
 -- Which errors an instance has by a list of schemas.
 use Rattle.std.specs.Prelude.{◌≡◌, ◌↔◌, ◌⊎◌, ℕ, zero, suc, ◌*◌, List, [], ◌∷◌, ◌++◌, map, Bool, true, Option, Some, None}
-use Rattle.std.specs.Prelude.{MatchOption, IsTrue, length, slice_get}
+use Rattle.std.specs.Prelude.{MatchOption, IsTrue, codes, length, slice_get}
 use Rattle.std.specs.List.{flat_map}
 use Rattle.serde_json.specs.Data.{Data, depth}
 use Rattle.serde_json.specs.Find.{as_str}
@@ -13,7 +13,7 @@ use Rattle.neldrafi_schema.specs.Paths.{Segment, location_of}
 use Rattle.neldrafi_schema.specs.Errors.{Kind, false_schema, Error, found, of_text}
 use Rattle.neldrafi_schema.specs.Schemas.{Keyword, rule, string_keyword, malformed, Rule, Branch}
 use Rattle.neldrafi_schema.specs.declared.node.Part.{Part}
-use Rattle.neldrafi_schema.specs.Schemas.{Body, always, never, keywords, neither, Schema}
+use Rattle.neldrafi_schema.specs.Schemas.{Body, always, never, keywords, neither, Header, Schema}
 use Rattle.neldrafi_schema.specs.Rules.{Target, tested, applied, kinds, spans}
 use Rattle.neldrafi_schema.specs.Rules.{Child, children, is_all_of, part_of, on_each, left_kinds}
 
@@ -29,31 +29,40 @@ site_of site word t = record {
   instance = site.instance ++ location_of t.inside;
 }
 
--- the error of a keyword of the schema at this location
-abbrev pub error_of : List ℕ → Site → List ℕ → Data → Kind → Error
-error_of location site word instance kind = found (record {
+-- the absolute location of a schema's keyword: no name of a keyword has characters that are escaped
+abbrev pub absolute_below : List ℕ → List ℕ → List ℕ
+absolute_below absolute word = absolute ++ codes "/" ++ word
+
+-- the error of a keyword of a schema
+abbrev pub error_of : Header → Site → List ℕ → Data → Kind → Error
+error_of header site word instance kind = found (record {
   kind = kind;
   instance = instance;
-  schema_path = path_below location word;
+  schema_path = path_below header.location word;
   evaluation_path = path_below site.evaluation word;
   instance_path = site.instance;
+  absolute = absolute_below header.absolute word;
 })
 
 -- the error of the schema `false`, which has no keyword
-abbrev pub error_of_false : List ℕ → Site → Data → Error
-error_of_false location site instance = found (record {
+abbrev pub error_of_false : Header → Site → Data → Error
+error_of_false header site instance = found (record {
   kind = false_schema;
   instance = instance;
-  schema_path = location;
+  schema_path = header.location;
   evaluation_path = site.evaluation;
   instance_path = site.instance;
+  absolute = header.absolute;
 })
 
 -- ---- keywords
 
--- what a number, an instance and its place have for errors, with fewer steps
+-- what a number, an instance and its place have, with fewer steps: for errors, or for annotations
+abbrev pub Noted : Type 0 → Type 1
+Noted A = ℕ → Data → Site → List A → Type 0
+
 abbrev pub Below : Type 1
-Below = ℕ → Data → Site → List Error → Type 0
+Below = Noted Error
 
 -- whether each target has no errors
 abbrev pub AreVerdicts : Below → Site → List ℕ → List Target → List Bool → Type 0
@@ -117,57 +126,58 @@ AreUnevaluated schemas below beside d (Some part) left =
 -- ---- errors
 
 -- target by target
-abbrev pub EachReports : Below → Site → List ℕ → List Target → List Error → Type 0
+abbrev pub EachReports : {A : Type 0} → Noted A → Site → List ℕ → List Target → List A → Type 0
 EachReports below site word [] es = es ≡ []
-EachReports below site word (t ∷ ts) es = (first : List Error) × (later : List Error)
+EachReports {A} below site word (t ∷ ts) es = (first : List A) × (later : List A)
     × below t.schema t.value (site_of site word t) first
     × EachReports below site word ts later × (es ≡ first ++ later)
 
 -- the keyword's own errors, and behind them those of the schemas to which it leads
-abbrev pub RuleReports : List Schema → Below → List ℕ → List Keyword → List ℕ → Rule → List Branch
+abbrev pub RuleReports : List Schema → Below → Header → List Keyword → List ℕ → Rule → List Branch
     → Data → Site → List Error → Type 0
-RuleReports schemas below location beside word r bs d site es = (vs : List Bool)
+RuleReports schemas below header beside word r bs d site es = (vs : List Bool)
     × (left : List Child) × (later : List Error)
     × AreVerdicts below site word (tested r bs d) vs
     × AreUnevaluated schemas below beside d (part_of r) left
     × EachReports below site word (applied beside r bs d vs ++ flat_map (on_each left) bs) later
-    × (es ≡ map (error_of location site word d)
+    × (es ≡ map (error_of header site word d)
     (kinds beside word r d vs ++ left_kinds (part_of r) bs left) ++ later)
 
 -- of a string keyword, as `strkw_keywords` reports them
-abbrev pub TextReports : Lists → List Assertion → Option (List ℕ) → Site → List Error → Type 0
-TextReports lists asserted text site es = (rs : List Report)
-    × NodeReports asserted lists site text rs × (es ≡ map of_text rs)
-
-abbrev pub KeywordReports : List Schema → Below → Lists → List ℕ → List Keyword → Keyword → Data → Site
+abbrev pub TextReports : Lists → Header → List ℕ → List Assertion → Option (List ℕ) → Site
     → List Error → Type 0
-KeywordReports schemas below lists location beside (rule word r bs) d site es =
-    RuleReports schemas below location beside word r bs d site es
-KeywordReports schemas below lists location beside (string_keyword asserted) d site es =
-    TextReports lists asserted (as_str d) site es
-KeywordReports schemas below lists location beside (malformed path why) d site es = ⊥
+TextReports lists header word asserted text site es = (rs : List Report)
+    × NodeReports asserted lists site text rs × (es ≡ map (of_text (absolute_below header.absolute word)) rs)
+
+abbrev pub KeywordReports : List Schema → Below → Lists → Header → List Keyword → Keyword → Data → Site
+    → List Error → Type 0
+KeywordReports schemas below lists header beside (rule word r bs) d site es =
+    RuleReports schemas below header beside word r bs d site es
+KeywordReports schemas below lists header beside (string_keyword word asserted) d site es =
+    TextReports lists header word asserted (as_str d) site es
+KeywordReports schemas below lists header beside (malformed path why) d site es = ⊥
 
 -- keyword by keyword
-abbrev pub KeywordsReport : List Schema → Below → Lists → List ℕ → List Keyword → List Keyword → Data → Site
+abbrev pub KeywordsReport : List Schema → Below → Lists → Header → List Keyword → List Keyword → Data → Site
     → List Error → Type 0
-KeywordsReport schemas below lists location beside [] d site es = es ≡ []
-KeywordsReport schemas below lists location beside (k ∷ ks) d site es = (first : List Error)
-    × (later : List Error) × KeywordReports schemas below lists location beside k d site first
-    × KeywordsReport schemas below lists location beside ks d site later × (es ≡ first ++ later)
+KeywordsReport schemas below lists header beside [] d site es = es ≡ []
+KeywordsReport schemas below lists header beside (k ∷ ks) d site es = (first : List Error)
+    × (later : List Error) × KeywordReports schemas below lists header beside k d site first
+    × KeywordsReport schemas below lists header beside ks d site later × (es ≡ first ++ later)
 
-abbrev pub SchemaReports : List Schema → Below → Lists → List ℕ → Body → Data → Site → List Error → Type 0
-SchemaReports schemas below lists location always d site es = es ≡ []
-SchemaReports schemas below lists location never d site es = es ≡ error_of_false location site d ∷ []
-SchemaReports schemas below lists location (keywords ks) d site es =
-    KeywordsReport schemas below lists location ks ks d site es
-SchemaReports schemas below lists location neither d site es = ⊥
+abbrev pub SchemaReports : List Schema → Below → Lists → Header → Body → Data → Site → List Error → Type 0
+SchemaReports schemas below lists header always d site es = es ≡ []
+SchemaReports schemas below lists header never d site es = es ≡ error_of_false header site d ∷ []
+SchemaReports schemas below lists header (keywords ks) d site es =
+    KeywordsReport schemas below lists header ks ks d site es
+SchemaReports schemas below lists header neither d site es = ⊥
 
 -- These are the errors of an instance by a schema of the list, within so many steps from schema to
 -- schema.
 unfoldable pub Reports : List Schema → Lists → ℕ → Below
 Reports schemas lists zero n d site es = ⊥
 Reports schemas lists (suc steps) n d site es = MatchOption (slice_get schemas n) ⊥
-    (λ s. SchemaReports schemas (Reports schemas lists steps) lists s.location s.body d site es)
+    (λ s. SchemaReports schemas (Reports schemas lists steps) lists s.header s.body d site es)
 
 -- More steps are never taken: a way that does not enter the instance passes each schema once.
 abbrev pub enough : List Schema → Data → ℕ

@@ -13,9 +13,10 @@ use Rattle.strkw_keywords.specs.Object.{Settings, Keyed, AreEntriesOf, refusal, 
 use Rattle.neldrafi_schema.specs.declared.known.Known.{Known}
 use Rattle.neldrafi_schema.specs.declared.known.Known.TheVariants as known
 use Rattle.neldrafi_schema.specs.Numbers.{size_in}
-use Rattle.neldrafi_schema.specs.Paths.{Path, key, document, location_of}
+use Rattle.neldrafi_schema.specs.Paths.{Path, key, document}
 use Rattle.neldrafi_schema.specs.Documents.{Documents, value_in}
-use Rattle.neldrafi_schema.specs.Drafts.{is_draft_4, known_named}
+use Rattle.neldrafi_schema.specs.Drafts.{draft_of, is_draft_4, known_named}
+use Rattle.neldrafi_schema.specs.Headers.{header_at}
 use Rattle.neldrafi_schema.specs.Values.{Lead, Sense, nothing, says, refused, sense, reference_sense, member_leads}
 use Rattle.neldrafi_schema.specs.References.{schema_referred}
 use Rattle.neldrafi_schema.specs.Scopes.{Scope, ScopedPath, entered}
@@ -37,16 +38,16 @@ abbrev pub alone : TextKeyword → Data → Members
 alone k d = member (keyword_name k) (handed k d) no_members
 
 -- what entries assert, or why they are refused; none is needed where they assert nothing
-abbrev pub SaysEntries : Path → List Assertion → Option Refusal → List Keyword → Type 0
-SaysEntries at asserted (Some r) ks = ks ≡ malformed at (by_string_keyword r.reason) ∷ []
-SaysEntries at asserted None ks =
-    (ks ≡ string_keyword asserted ∷ []) ⊎ ((asserted ≡ []) × (ks ≡ []))
+abbrev pub SaysEntries : Path → TextKeyword → List Assertion → Option Refusal → List Keyword → Type 0
+SaysEntries at k asserted (Some r) ks = ks ≡ malformed at (by_string_keyword r.reason) ∷ []
+SaysEntries at k asserted None ks =
+    (ks ≡ string_keyword (keyword_name k) asserted ∷ []) ⊎ ((asserted ≡ []) × (ks ≡ []))
 
 pub record TextSays (s : Settings) (at : Path) (k : TextKeyword) (d : Data) (ks : List Keyword)
     : Type 0 where
   pub entries : List Keyed
   pub are_entries : AreEntriesOf s (alone k d) (k ∷ []) entries
-  pub said : SaysEntries at (all_assertions s.place entries) (refusal s.place entries) ks
+  pub said : SaysEntries at k (all_assertions s.place entries) (refusal s.place entries) ks
 
 -- ---- schemas by number
 
@@ -73,7 +74,7 @@ pub data Patterns : Type 0 where
   malformed_at : Path → Reason → Patterns
 
 abbrev pub with_pattern : List Keyword → Patterns → Patterns
-with_pattern (string_keyword asserted ∷ []) (patterns others) = patterns (asserted ∷ others)
+with_pattern (string_keyword word asserted ∷ []) (patterns others) = patterns (asserted ∷ others)
 with_pattern other others = others
 
 -- behind a pattern that is refused none counts
@@ -155,7 +156,8 @@ paths_in paths = map (λ at. at.path) paths
 -- first, entered from no scope. A schema is in the list once for each scope from which it is entered.
 pub record Says (s : Settings) (documents : Documents) (schemas : List Schema) : Type 0 where
   pub paths : List ScopedPath
-  pub located : map (λ t. t.location) schemas ≡ map location_of (paths_in paths)
+  pub headed : map (λ t. t.header) schemas
+      ≡ map (header_at (draft_of s.draft documents.schema) documents) (paths_in paths)
   pub root : slice_get paths 0 ≡ Some (record { scope = []; path = document 0 ∷ [] })
   pub each : (n : ℕ) (at : ScopedPath) (t : Schema) → slice_get paths n ≡ Some at
       → slice_get schemas n ≡ Some t

@@ -3,6 +3,7 @@
 use Rattle.std.specs.Prelude.{ℕ, suc, List, [], ◌∷◌, ◌++◌, map, Bool, true, false, ◌&&◌, Option, Some, None}
 use Rattle.std.specs.Prelude.{if◌then◌else◌}
 use Rattle.std.specs.Prelude.{option_map, unwrap_or}
+use Rattle.std.specs.List.{flat_map}
 use Rattle.std.specs.Str.{bytes_eq}
 use Rattle.serde_json.specs.Data.{Data, array, object}
 use Rattle.serde_json.specs.Data.{Items, no_items, item, Members, no_members, member}
@@ -78,6 +79,7 @@ holding known.If = held.OneOrSeveral
 holding known.Then = held.OneOrSeveral
 holding known.Else = held.OneOrSeveral
 holding (known.Unevaluated p) = held.OneOrSeveral
+holding known.ContentSchema = held.OneOrSeveral
 holding other = held.Nothing
 
 -- what counts of a value that is one schema or several, or of one whose members are schemas
@@ -85,6 +87,37 @@ abbrev pub held_by : {A : Type 0} → Holding → List A → List A → List A
 held_by held.Nothing one members = []
 held_by held.OneOrSeveral one members = one
 held_by held.ByKey one members = members
+
+-- The schema objects of the schema at a path, or of the list of schemas there: itself, and those
+-- below it, each with its path, in the order of the document.
+abbrev mutual
+  pub schema_objects : Draft → Path → Data → List (Path × Members)
+  schema_objects draft path (object ms) = (path, ms) ∷ of_members draft path ms ms
+  schema_objects draft path (array ds) = of_items draft path 0 ds
+  schema_objects draft path other = []
+
+  pub of_items : Draft → Path → ℕ → Items → List (Path × Members)
+  of_items draft path n no_items = []
+  of_items draft path n (item d ds) =
+      schema_objects draft (path ++ place n ∷ []) d ++ of_items draft path (suc n) ds
+
+  -- of the members of the object all
+  pub of_members : Draft → Path → Members → Members → List (Path × Members)
+  of_members draft path all no_members = []
+  of_members draft path all (member name d ms) =
+      held_by (holding (known_named draft all name))
+      (schema_objects draft (path ++ key name ∷ []) d)
+      (of_keyed draft (path ++ key name ∷ []) d) ++ of_members draft path all ms
+
+  -- of an object whose members are schemas
+  pub of_keyed : Draft → Path → Data → List (Path × Members)
+  of_keyed draft path (object ms) = of_each draft path ms
+  of_keyed draft path other = []
+
+  pub of_each : Draft → Path → Members → List (Path × Members)
+  of_each draft path no_members = []
+  of_each draft path (member name d ms) =
+      schema_objects draft (path ++ key name ∷ []) d ++ of_each draft path ms
 
 -- ---- identifiers
 
@@ -104,57 +137,30 @@ own_anchors draft ms = resource_anchors (is_recursive draft ms) (identifier_in d
 abbrev pub identifier : List ℕ → Path → Anchor → Identifier
 identifier uri path a = record { uri = uri; anchor = a.0; is_dynamic = a.1; path = path }
 
-abbrev pub own_identifiers : Draft → List ℕ → Path → Members → List Identifier
-own_identifiers draft base path ms = map (identifier base path) (own_anchors draft ms)
-
--- Those of the schema at a path and below it, whose base URI this is, in the order of the document.
-abbrev mutual
-  pub identifiers : Draft → List ℕ → Path → Data → List Identifier
-  identifiers draft base path (object ms) =
-      own_identifiers draft (base_by base (identifier_in draft ms)) path ms
-      ++ of_members draft (base_by base (identifier_in draft ms)) path ms ms
-  identifiers draft base path (array ds) = of_items draft base path 0 ds
-  identifiers draft base path other = []
-
-  pub of_items : Draft → List ℕ → Path → ℕ → Items → List Identifier
-  of_items draft base path n no_items = []
-  of_items draft base path n (item d ds) =
-      identifiers draft base (path ++ place n ∷ []) d ++ of_items draft base path (suc n) ds
-
-  -- of the members of the object all
-  pub of_members : Draft → List ℕ → Path → Members → Members → List Identifier
-  of_members draft base path all no_members = []
-  of_members draft base path all (member name d ms) =
-      held_by (holding (known_named draft all name)) (identifiers draft base (path ++ key name ∷ []) d)
-      (of_keyed draft base (path ++ key name ∷ []) d) ++ of_members draft base path all ms
-
-  -- of an object whose members are schemas
-  pub of_keyed : Draft → List ℕ → Path → Data → List Identifier
-  of_keyed draft base path (object ms) = of_each draft base path ms
-  of_keyed draft base path other = []
-
-  pub of_each : Draft → List ℕ → Path → Members → List Identifier
-  of_each draft base path no_members = []
-  of_each draft base path (member name d ms) =
-      identifiers draft base (path ++ key name ∷ []) d ++ of_each draft base path ms
+-- those of a schema object of the documents
+abbrev pub own_identifiers : Draft → Documents → Path × Members → List Identifier
+own_identifiers draft documents o =
+    map (identifier (base_among draft documents o.0) o.0) (own_anchors draft o.1)
 
 abbrev pub recurs : Draft → Data → Bool
 recurs draft (object ms) = is_recursive draft ms
 recurs draft other = false
 
 -- those of the document of a number, which is known by a URI
-abbrev pub document_identifiers : Draft → ℕ → List ℕ → Data → List Identifier
-document_identifiers draft n uri value = identifier uri (document n ∷ []) ([], recurs draft value)
-    ∷ identifiers draft uri (document n ∷ []) value
+abbrev pub document_identifiers : Draft → Documents → ℕ → Document → List Identifier
+document_identifiers draft documents n d =
+    identifier d.uri (document n ∷ []) ([], recurs draft d.value)
+    ∷ flat_map (own_identifiers draft documents) (schema_objects draft (document n ∷ []) d.value)
 
-abbrev pub further_identifiers : Draft → ℕ → List Document → List Identifier
-further_identifiers draft n [] = []
-further_identifiers draft n (d ∷ documents) =
-    document_identifiers draft n d.uri d.value ++ further_identifiers draft (suc n) documents
+abbrev pub further_identifiers : Draft → Documents → ℕ → List Document → List Identifier
+further_identifiers draft documents n [] = []
+further_identifiers draft documents n (d ∷ ds) =
+    document_identifiers draft documents n d ++ further_identifiers draft documents (suc n) ds
 
 abbrev pub all_identifiers : Draft → Documents → List Identifier
 all_identifiers draft documents =
-    document_identifiers draft 0 schema_uri documents.schema ++ further_identifiers draft 1 documents.further
+    document_identifiers draft documents 0 (record { uri = schema_uri; value = documents.schema })
+    ++ further_identifiers draft documents 1 documents.further
 
 -- the path to what a URI and a plain name identify, which is the first
 abbrev pub identified : List ℕ → List ℕ → List Identifier → Option Path

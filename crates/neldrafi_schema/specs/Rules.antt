@@ -193,10 +193,22 @@ counts_nothing member_names = true
 counts_nothing (contains least most false) = true
 counts_nothing other = false
 
--- The targets that count: those that are valid, or that have to be, since otherwise the instance is not.
+-- of the schema of `if`, only the keyword itself counts
+abbrev pub is_choice : Rule → Bool
+is_choice where_valid = true
+is_choice where_not_valid = true
+is_choice other = false
+
+abbrev pub found_valid : Rule → List Branch → Data → List Bool → List Target
+found_valid r bs d vs = if is_choice r then [] else valid_of (tested r bs d) vs
+
+-- the targets that are valid, or have to be, since otherwise the instance is not
+abbrev pub reached : List Keyword → Rule → List Branch → Data → List Bool → List Target
+reached beside r bs d vs = found_valid r bs d vs ++ applied beside r bs d vs
+
+-- those that count
 abbrev pub spans : List Keyword → Rule → List Branch → Data → List Bool → List Target
-spans beside r bs d vs =
-    if counts_nothing r then [] else valid_of (tested r bs d) vs ++ applied beside r bs d vs
+spans beside r bs d vs = if counts_nothing r then [] else reached beside r bs d vs
 
 -- a member or an item, and the segment that leads to it
 abbrev pub Child : Type 0

@@ -63,7 +63,7 @@ pub data Rule : Type 0 where
   -- the first schema is of the instance where it is valid by the second, or where it is not
   where_valid : Rule
   where_not_valid : Rule
-  -- it reports nothing, but what the schema evaluates counts
+  -- it reports nothing, but what the schema evaluates and annotates counts
   condition : Rule
   -- the schema is of the members or items that no keyword beside evaluates; without a schema, there
   -- are to be none
@@ -80,8 +80,8 @@ pub record Branch : Type 0 where
 pub data Keyword : Type 0 where
   -- the keyword of this name
   rule : List ℕ → Rule → List Branch → Keyword
-  -- what a string keyword asserts
-  string_keyword : List Assertion → Keyword
+  -- what the string keyword of this name asserts
+  string_keyword : List ℕ → List Assertion → Keyword
   -- what stands there, below the object, has no meaning
   malformed : Path → Reason → Keyword
 
@@ -94,7 +94,18 @@ pub data Body : Type 0 where
   -- a value that is no schema
   neither : Body
 
--- a schema, and the JSON pointer to it
-pub record Schema : Type 0 where
+-- what a keyword says for annotation, of any instance, or of strings alone
+pub record Note : Type 0 where
+  pub keyword : List ℕ
+  pub value : Data
+  pub of_texts : Bool
+
+-- where a schema is, as a JSON pointer in its document and as a URI, and what its keywords annotate
+pub record Header : Type 0 where
   pub location : List ℕ
+  pub absolute : List ℕ
+  pub notes : List Note
+
+pub record Schema : Type 0 where
+  pub header : Header
   pub body : Body

@@ -1,6 +1,6 @@
 -- The values that keywords take, and what each comes to before its schemas are numbered. Sections are
 -- those of draft 7: Core, and Validation (6.x).
-use Rattle.std.specs.Prelude.{ℕ, suc, List, [], ◌∷◌, ◌++◌, Bool, true, false, not, ◌&&◌, ◌||◌, Option}
+use Rattle.std.specs.Prelude.{ℕ, suc, List, [], ◌∷◌, ◌++◌, Bool, true, false, not, ◌&&◌, Option}
 use Rattle.std.specs.Prelude.{Some, None, codes, if◌then◌else◌, option_and_then, option_map, is_some, unwrap_or}
 use Rattle.serde_json.specs.Data.{Data, Num, array}
 use Rattle.serde_json.specs.Data.{Items, no_items, item, Members, no_members, member}
@@ -183,6 +183,19 @@ abbrev pub identifier_sense : Draft → List ℕ → Sense
 identifier_sense draft text = if has_keyword draft known.Anchor && has_some (fragment_of text)
     then refused wrong_type else nothing
 
+-- of a value that says nothing by itself
+abbrev pub kind_sense : Bool → Sense
+kind_sense is_right = if is_right then nothing else refused wrong_type
+
+-- an object whose members are Booleans (Core 2020-12, section 8.1.2)
+abbrev pub are_flags : Members → Bool
+are_flags no_members = true
+are_flags (member name d ms) = is_some (as_bool d) && are_flags ms
+
+abbrev pub has_flags : Option Members → Bool
+has_flags (Some ms) = are_flags ms
+has_flags None = false
+
 -- (2020-12, Core, section 8.2.2; 2019-09, section 8.2.3)
 abbrev pub anchor_sense : Draft → List ℕ → Sense
 anchor_sense draft text = if is_anchor draft text then nothing else refused wrong_type
@@ -230,14 +243,6 @@ branch_sense r ms path at = if is_some (get_member (codes "if") ms)
     then says r (lead_to at ++ lead_to (path ++ key (codes "if") ∷ []))
     else says held (lead_to at)
 
--- of `if` without `then` and `else`, only what it evaluates counts
-abbrev pub is_condition : Draft → Members → Bool
-is_condition draft ms = has_unevaluated draft
-    && not (is_some (get_member (codes "then") ms) || is_some (get_member (codes "else") ms))
-
-abbrev pub if_rule : Draft → Members → Rule
-if_rule draft ms = if is_condition draft ms then condition else held
-
 -- What the value of a keyword means, unless it is a string keyword, `patternProperties` or a
 -- reference: it is at `at`, in the object ms at a path of the document.
 abbrev pub sense : Draft → Members → Path → Path → Known → Data → Sense
@@ -272,16 +277,24 @@ sense draft ms path at known.PrefixItems d = list_sense placed at (as_array d)
 sense draft ms path at known.Items d = items_sense draft at (as_array d)
 sense draft ms path at known.AdditionalItems d = additional_sense draft ms at d
 sense draft ms path at known.Contains d = says (contains_rule draft ms) (lead_to at)
-sense draft ms path at known.ContainsCount d = of_kind (λ n. nothing) (size_in d)
+sense draft ms path at known.ContainsCount d = kind_sense (is_some (size_in d))
 sense draft ms path at known.AllOf d = list_sense all_of at (as_array d)
 sense draft ms path at known.AnyOf d = list_sense any_of at (as_array d)
 sense draft ms path at known.OneOf d = list_sense one_of at (as_array d)
 sense draft ms path at known.Not d = says (negation d) (lead_to at)
 sense draft ms path at (known.Unevaluated p) d =
     others_sense draft (unevaluated p) (unevaluated p) at (as_bool d)
-sense draft ms path at known.If d = says (if_rule draft ms) (lead_to at)
+sense draft ms path at known.If d = says condition (lead_to at)
 sense draft ms path at known.Then d = branch_sense where_valid ms path at
 sense draft ms path at known.Else d = branch_sense where_not_valid ms path at
 sense draft ms path at known.Definitions d = map_sense held at (as_object d)
 sense draft ms path at known.Defs d = map_sense held at (as_object d)
+sense draft ms path at known.Description d = kind_sense (is_some (as_str d))
+sense draft ms path at known.Examples d = kind_sense (is_array d)
+sense draft ms path at known.Comment d = kind_sense (is_some (as_str d))
+sense draft ms path at known.Access d = kind_sense (is_some (as_bool d))
+sense draft ms path at known.Deprecated d = kind_sense (is_some (as_bool d))
+sense draft ms path at known.Content d = kind_sense (is_some (as_str d))
+sense draft ms path at known.ContentSchema d = says held (lead_to at)
+sense draft ms path at known.Vocabulary d = kind_sense (has_flags (as_object d))
 sense draft ms path at other d = nothing

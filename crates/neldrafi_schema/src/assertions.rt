@@ -6,7 +6,7 @@ ghost use Rattle.serde_json.specs.View.{items_view, members_view, number_view, v
 ghost use Rattle.strkw_pattern.specs.declared.engine.Outcome.{Outcome};
 ghost use Rattle.neldrafi_schema.specs.Documents.{Documents};
 ghost use Rattle.neldrafi_schema.specs.Paths.{Path};
-ghost use Rattle.neldrafi_schema.specs.Values.{all_items, dependencies_in, dependent_names, distinct_sense, draft_4_sense, flag_sense, greatest_of, is_true_at, least_of, limit_sense, names_in, needs_values, number_sense, of_kind, positive_in, sense, type_in, types_in, values_in};
+ghost use Rattle.neldrafi_schema.specs.Values.{all_items, dependencies_in, dependent_names, distinct_sense, draft_4_sense, flag_sense, greatest_of, has_flags, is_true_at, kind_sense, least_of, limit_sense, names_in, needs_values, number_sense, of_kind, positive_in, sense, type_in, types_in, values_in};
 ghost use Rattle.neldrafi_schema.specs.machine.Compiled.{dependency_of};
 ghost use Rattle.neldrafi_schema.specs.machine.Leads.{AreLeads, is_assertion, is_lacking};
 ghost use Rattle.neldrafi_schema.specs.machine.Said.{sense_of};
@@ -64,11 +64,35 @@ pub(crate) fn assertion_sense<'v, E: Drop>(
             Some(limit) => Ok(assertion(alloc, Rule::Sized(size, limit))),
             None => Ok(wrong_type()),
         },
-        Known::ContainsCount => match size_in(value) {
-            Some(_) => Ok(Sense::Nothing),
-            None => Ok(wrong_type()),
-        },
+        Known::ContainsCount => Ok(kind_sense(size_in(value).is_some())),
+        Known::Description | Known::Comment | Known::Content => Ok(kind_sense(value.is_string())),
+        Known::Examples => Ok(kind_sense(value.is_array())),
+        Known::Access | Known::Deprecated => Ok(kind_sense(value.is_boolean())),
+        Known::Vocabulary => Ok(kind_sense(has_flags(value))),
         _ => Ok(Sense::Nothing),
+    }
+}
+
+// What a value that says nothing by itself comes to, if it is of its keyword's kind or is not.
+fn kind_sense<'v, E: Drop>(is_right: bool) -> Sense<'v, E>
+    ensures leads { (documents : Documents) → AreLeads documents result }
+    ensures sense { (outcome : E → List ℕ → Outcome) → sense_of outcome result
+        ≡ kind_sense is_right }
+{
+    if is_right {
+        Sense::Nothing
+    } else {
+        wrong_type()
+    }
+}
+
+// Whether it is an object, and each member is a Boolean.
+fn has_flags(value: &Value) -> bool
+    ensures { result ≡ has_flags (as_object (view value.now)) }
+{
+    match value.as_object() {
+        Some(members) => members.iter().all(|(_, flag)| flag.is_boolean()),
+        None => false,
     }
 }
 

@@ -5,22 +5,23 @@ ghost use Rattle.std.specs.List.{AllByRecursion, list_all};
 ghost use Rattle.serde_json.specs.View.{view};
 ghost use Rattle.strkw_keywords.specs.Meanings.{Lists};
 ghost use Rattle.neldrafi_schema.specs.Errors.{of_text};
-ghost use Rattle.neldrafi_schema.specs.Meaning.{KeywordReports, Reports, error_of, error_of_false, site_of};
+ghost use Rattle.neldrafi_schema.specs.Meaning.{KeywordReports, Reports, absolute_below, error_of, error_of_false, site_of};
 ghost use Rattle.neldrafi_schema.specs.Refusals.{ends, in_place, keywords_end};
 ghost use Rattle.neldrafi_schema.specs.machine.Closures.{Finds, MayFind, MayTest, Tests};
-ghost use Rattle.neldrafi_schema.specs.machine.Compiled.{keyword_of, keywords_of, ruled_of, schemas_of, seen_data, target_of};
+ghost use Rattle.neldrafi_schema.specs.machine.Compiled.{header_of, keyword_of, keywords_of, ruled_of, schemas_of, seen_data, target_of};
 ghost use Rattle.neldrafi_schema.specs.machine.Found.{Appended, kind_of, kinds_of};
 ghost use Rattle.neldrafi_schema.specs.machine.Ready.{IsKeywordReady, IsReady, IsRuledReady, steps_for};
 
-use crate::error::{ErrorKind, Failure, ValidationError};
-use crate::node::{Body, Keyword, Node, Ruled};
+use crate::error::{ErrorKind, Failure, TextFailure, ValidationError};
+use crate::headers::absolute_below;
+use crate::node::{Body, Header, Keyword, Node, Ruled};
 use crate::targets::Target;
 use crate::validity::Checker;
 use serde_json::Value;
 use std::alloc::{AllocError, Global};
 use strkw_keywords::Validator;
 use strkw_pattern::RegexEngine;
-use strkw_report::{Location, Site, ValidationError as TextError};
+use strkw_report::{Site, ValidationError as TextError};
 
 /// An instance that is visited, with its place and that of the schema on the way of evaluation.
 #[derive(Clone, Copy)]
@@ -116,7 +117,7 @@ where
             → OnOk result (Appended (KeywordReports
             (schemas_of E.outcome self.now.checker.nodes.now)
             (Reports (schemas_of E.outcome self.now.checker.nodes.now) lists k) lists
-            node.now.location
+            (header_of node.now.header)
             (keywords_of E.outcome beside.now) (keyword_of E.outcome keyword.now)
             (view visit.now.instance.now) visit.now.site.now) errors.old.items errors.new.items) }
     {
@@ -124,9 +125,9 @@ where
             Keyword::Rule(ruled) => {
                 self.push_rule(alloc, node, beside, ruled, steps, visit, errors)
             }
-            Keyword::Text(validator) => {
-                let text = visit.instance.as_str();
-                push_texts((self.text_errors)(validator, text, visit.site)?, errors)
+            Keyword::Text(keyword, validator) => {
+                let found = (self.text_errors)(validator, visit.instance.as_str(), visit.site)?;
+                push_texts(alloc, found, &node.header, keyword.as_str(), errors)
             }
         }
     }
@@ -164,13 +165,20 @@ where
             → OnOk result (Appended (KeywordReports
             (schemas_of E.outcome self.now.checker.nodes.now)
             (Reports (schemas_of E.outcome self.now.checker.nodes.now) lists k) lists
-            node.now.location
+            (header_of node.now.header)
             (keywords_of E.outcome beside.now) (ruled_of E.outcome ruled.now)
             (view visit.now.instance.now) visit.now.site.now) errors.old.items errors.new.items) }
     {
         let checker = &self.checker;
         let (kinds, targets) = checker.findings(alloc, beside, ruled, steps, visit.instance)?;
-        push_kinds(ruled.name.as_str(), kinds, &node.location, visit, errors)?;
+        push_kinds(
+            alloc,
+            ruled.name.as_str(),
+            kinds,
+            &node.header,
+            visit,
+            errors,
+        )?;
         let left = checker.steps_below(ruled, steps);
         for target in &targets {
             self.push_target(alloc, ruled, target, left, visit, errors)?;
@@ -215,7 +223,12 @@ where
 }
 
 // Where the schema and the value of a target stand.
-fn site_of(alloc: Global, site: &Site, word: &str, target: &Target<'_>) -> Result<Site, AllocError>
+pub(crate) fn site_of(
+    alloc: Global,
+    site: &Site,
+    word: &str,
+    target: &Target<'_>,
+) -> Result<Site, AllocError>
     ensures { IfOk result (λ below. below ≡ site_of site.now word.now (target_of target.now)) }
 {
     let mut evaluation = site.evaluation.join(word)?;
@@ -232,52 +245,64 @@ fn site_of(alloc: Global, site: &Site, word: &str, target: &Target<'_>) -> Resul
     })
 }
 
-// Appends the errors of a string keyword.
-fn push_texts(found: Vec<TextError>, errors: &mut Vec<ValidationError>) -> Result<(), AllocError>
-    ensures { OnOk result (Appended (λ es. es ≡ map of_text found.items)
+// Appends the errors of a string keyword of a schema.
+fn push_texts(
+    alloc: Global,
+    found: Vec<TextError>,
+    header: &Header,
+    keyword: &str,
+    errors: &mut Vec<ValidationError>,
+) -> Result<(), AllocError>
+    ensures { OnOk result (Appended (λ es. es ≡ map (of_text (absolute_below
+        (string_bytes header.now.absolute) keyword.now)) found.items)
         errors.old.items errors.new.items) }
 {
     for error in found {
-        errors.push(ValidationError::Text(error))?;
+        let absolute = absolute_below(alloc, header, keyword)?;
+        errors.push(ValidationError::Text(TextFailure { error, absolute }))?;
     }
     Ok(())
 }
 
-// Appends the errors of a keyword of the schema at a location.
+// Appends the errors of a keyword of a schema.
 fn push_kinds(
+    alloc: Global,
     keyword: &str,
     kinds: Vec<ErrorKind>,
-    location: &Location,
+    header: &Header,
     visit: &Visit<'_>,
     errors: &mut Vec<ValidationError>,
 ) -> Result<(), AllocError>
-    ensures { OnOk result (Appended (λ es. es ≡ map (error_of location.now visit.now.site.now
-        keyword.now (view visit.now.instance.now)) (kinds_of kinds.items))
+    ensures { OnOk result (Appended (λ es. es ≡ map (error_of (header_of header.now)
+        visit.now.site.now keyword.now (view visit.now.instance.now)) (kinds_of kinds.items))
         errors.old.items errors.new.items) }
 {
     for kind in kinds {
-        push_at(keyword, kind, location, visit, errors)?;
+        push_at(alloc, keyword, kind, header, visit, errors)?;
     }
     Ok(())
 }
 
-// Appends the error of a keyword of the schema at a location.
+// Appends the error of a keyword of a schema.
 fn push_at(
+    alloc: Global,
     keyword: &str,
     kind: ErrorKind,
-    location: &Location,
+    header: &Header,
     visit: &Visit<'_>,
     errors: &mut Vec<ValidationError>,
 ) -> Result<(), AllocError>
-    ensures { OnOk result (Appended (λ es. es ≡ error_of location.now visit.now.site.now keyword.now
-        (view visit.now.instance.now) (kind_of kind) ∷ []) errors.old.items errors.new.items) }
+    ensures { OnOk result (Appended (λ es. es ≡ error_of (header_of header.now)
+        visit.now.site.now keyword.now (view visit.now.instance.now) (kind_of kind) ∷ [])
+        errors.old.items errors.new.items) }
 {
     let failure = Failure {
         kind,
         instance: visit.instance.clone()?,
-        schema_path: location.join(keyword)?,
+        schema_path: header.location.join(keyword)?,
         evaluation_path: visit.site.evaluation.join(keyword)?,
         instance_path: visit.site.instance.clone()?,
+        absolute: absolute_below(alloc, header, keyword)?,
     };
     errors.push(ValidationError::Failed(failure))?;
     Ok(())
@@ -289,15 +314,16 @@ fn push_false<E>(
     visit: &Visit<'_>,
     errors: &mut Vec<ValidationError>,
 ) -> Result<(), AllocError>
-    ensures { OnOk result (Appended (λ es. es ≡ error_of_false node.now.location
+    ensures { OnOk result (Appended (λ es. es ≡ error_of_false (header_of node.now.header)
         visit.now.site.now (view visit.now.instance.now) ∷ []) errors.old.items errors.new.items) }
 {
     let failure = Failure {
         kind: ErrorKind::FalseSchema,
         instance: visit.instance.clone()?,
-        schema_path: node.location.clone()?,
+        schema_path: node.header.location.clone()?,
         evaluation_path: visit.site.evaluation.clone()?,
         instance_path: visit.site.instance.clone()?,
+        absolute: node.header.absolute.clone()?,
     };
     errors.push(ValidationError::Failed(failure))?;
     Ok(())

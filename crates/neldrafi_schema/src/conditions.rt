@@ -8,9 +8,9 @@ ghost use Rattle.strkw_keywords.specs.Meanings.{Lists};
 ghost use Rattle.strkw_pattern.specs.declared.engine.Outcome.{Outcome};
 ghost use Rattle.neldrafi_schema.specs.Meaning.{Reports};
 ghost use Rattle.neldrafi_schema.specs.Refusals.{in_place, schemas_in};
-ghost use Rattle.neldrafi_schema.specs.Schemas.{Keyword as Said, Schema};
+ghost use Rattle.neldrafi_schema.specs.Schemas.{Keyword as Said, Header, Schema};
 ghost use Rattle.neldrafi_schema.specs.machine.Compiled.{branches_of, keyword_of};
-ghost use Rattle.neldrafi_schema.specs.machine.Conditions.{Chooses, Ends, IsKnown, Means};
+ghost use Rattle.neldrafi_schema.specs.machine.Conditions.{Chooses, ChoosesAlone, Ends, IsKnown, Means};
 
 use crate::node::{Branch, Keyword, Rule};
 
@@ -57,9 +57,9 @@ fn second_of(branches: &[Branch]) -> Option<usize>
 /// What a keyword leads to, by what is known of `if`.
 pub(crate) fn choice_of<E>(conditional: &Conditional<'_, E>) -> Choice
     ensures means { (outcome : E → List ℕ → Outcome) (schemas : List Schema) (lists : Lists) (k : ℕ)
-        (location : List ℕ) (beside : List Said) (d : Data) (site : Site)
+        (header : Header) (beside : List Said) (d : Data) (site : Site)
         → IsKnown (Reports schemas lists k) d conditional.now.condition
-        → Means schemas (Reports schemas lists k) lists location beside
+        → Means schemas (Reports schemas lists k) lists header beside
         (keyword_of outcome conditional.now.keyword.now) d site result }
     ensures end { (outcome : E → List ℕ → Outcome) (end : ℕ → Bool)
         → list_all end (in_place (keyword_of outcome conditional.now.keyword.now)) ≡ true
@@ -72,6 +72,23 @@ pub(crate) fn choice_of<E>(conditional: &Conditional<'_, E>) -> Choice
     match &ruled.rule {
         Rule::WhereValid => choice_among(&ruled.branches, number, valid),
         Rule::WhereNotValid => choice_among(&ruled.branches, number, !valid),
+        Rule::Condition => choice_alone(&ruled.branches, number),
+        _ => Choice::Unknown,
+    }
+}
+
+// Nothing counts, if the schema is the condition.
+fn choice_alone(branches: &[Branch], number: usize) -> Choice
+    ensures { ChoosesAlone (branches_of branches.now) number result }
+{
+    match branches {
+        [test] => {
+            if test.schema == number {
+                Choice::Passes
+            } else {
+                Choice::Unknown
+            }
+        }
         _ => Choice::Unknown,
     }
 }

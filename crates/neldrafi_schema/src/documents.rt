@@ -100,7 +100,7 @@ fn value_at<'v>(document: &'v Value, path: &[Segment]) -> Option<&'v Value>
 }
 
 // The base URI of the schema at a path of a document.
-fn base_at(
+pub(crate) fn base_at(
     alloc: Global,
     draft: Draft,
     document: Document<'_>,
@@ -122,7 +122,12 @@ fn base_at(
 }
 
 // The base URI of a schema, by the one of the schema around it.
-fn base_in(alloc: Global, draft: Draft, base: String, value: &Value) -> Result<String, AllocError>
+pub(crate) fn base_in(
+    alloc: Global,
+    draft: Draft,
+    base: String,
+    value: &Value,
+) -> Result<String, AllocError>
     ensures { IfOk result (λ own. string_bytes own
         ≡ base_in draft (string_bytes base) (view value.now)) }
 {

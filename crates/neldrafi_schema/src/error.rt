@@ -7,7 +7,7 @@ ghost use Rattle.serde_json.specs.Find.{is_float};
 ghost use Rattle.serde_json.specs.View.{number_view, view};
 ghost use Rattle.serde_json.specs.Written.{compact_text, has_float};
 ghost use Rattle.strkw_report.specs.Quoting.{quoted_text};
-ghost use Rattle.neldrafi_schema.specs.Errors.{evaluation_path_of, in_quotes, instance_of, instance_path_of, kind_holds_float, listed, message, prints_float, quoted_name, schema_path_of, separator, size_text, text_of, types_text, unexpected_text};
+ghost use Rattle.neldrafi_schema.specs.Errors.{absolute_of, evaluation_path_of, in_quotes, instance_of, instance_path_of, kind_holds_float, listed, message, prints_float, quoted_name, schema_path_of, separator, size_text, text_of, types_text, unexpected_text};
 
 use crate::json_type::JsonType;
 use crate::limits::{Limit, Size};
@@ -67,13 +67,24 @@ pub struct Failure {
     pub evaluation_path: Location,
     /// The place of the instance.
     pub instance_path: Location,
+    /// The absolute location of the keyword, a URI.
+    pub absolute: String,
+}
+
+/// An error that a string keyword reports.
+#[derive(Drop)]
+pub struct TextFailure {
+    /// The error.
+    pub error: TextError,
+    /// The absolute location of the keyword, a URI.
+    pub absolute: String,
 }
 
 /// An error of an instance.
 #[derive(Drop)]
 pub enum ValidationError {
     /// Of a string keyword.
-    Text(TextError),
+    Text(TextFailure),
     /// Of any other, or of the schema `false`.
     Failed(Failure),
 }
@@ -106,7 +117,7 @@ impl ValidationError {
         ensures { view result.now ≡ instance_of (error_seen self.now) }
     {
         match self {
-            ValidationError::Text(error) => &error.instance,
+            ValidationError::Text(failure) => &failure.error.instance,
             ValidationError::Failed(failure) => &failure.instance,
         }
     }
@@ -116,7 +127,7 @@ impl ValidationError {
         ensures { result.now ≡ instance_path_of (error_seen self.now) }
     {
         match self {
-            ValidationError::Text(error) => &error.instance_path,
+            ValidationError::Text(failure) => &failure.error.instance_path,
             ValidationError::Failed(failure) => &failure.instance_path,
         }
     }
@@ -126,7 +137,7 @@ impl ValidationError {
         ensures { result.now ≡ schema_path_of (error_seen self.now) }
     {
         match self {
-            ValidationError::Text(error) => &error.schema_path,
+            ValidationError::Text(failure) => &failure.error.schema_path,
             ValidationError::Failed(failure) => &failure.schema_path,
         }
     }
@@ -136,8 +147,19 @@ impl ValidationError {
         ensures { result.now ≡ evaluation_path_of (error_seen self.now) }
     {
         match self {
-            ValidationError::Text(error) => &error.evaluation_path,
+            ValidationError::Text(failure) => &failure.error.evaluation_path,
             ValidationError::Failed(failure) => &failure.evaluation_path,
+        }
+    }
+
+    /// The absolute location of the keyword (Core 2020-12, section 12.3.2): the URI of its resource, and as fragment
+    /// the JSON pointer from the root of that resource. A schema that has no URI is known as `json-schema:///`.
+    pub fn absolute_location(&self) -> &str
+        ensures { result.now ≡ absolute_of (error_seen self.now) }
+    {
+        match self {
+            ValidationError::Text(failure) => failure.absolute.as_str(),
+            ValidationError::Failed(failure) => failure.absolute.as_str(),
         }
     }
 
@@ -147,7 +169,7 @@ impl ValidationError {
             → string_bytes s ≡ text_of (error_seen self.now)) }
     {
         match self {
-            ValidationError::Text(error) => error.text(alloc),
+            ValidationError::Text(failure) => failure.error.text(alloc),
             ValidationError::Failed(failure) => failure.text(alloc),
         }
     }
@@ -275,7 +297,12 @@ fn behind(alloc: Global, text: &str, other: &str) -> Result<String, AllocError>
 }
 
 // Two texts, and one between them.
-fn between(alloc: Global, first: &str, text: &str, last: &str) -> Result<String, AllocError>
+pub(crate) fn between(
+    alloc: Global,
+    first: &str,
+    text: &str,
+    last: &str,
+) -> Result<String, AllocError>
     ensures { IfOk result (λ s. string_bytes s ≡ first.now ++ text.now ++ last.now) }
 {
     format!(in alloc; "{first}{text}{last}")

@@ -1,17 +1,20 @@
 //! The URIs by which the schemas of a document are known.
 
 ghost use Rattle.std.specs.Prelude.{◌≡◌, ◌++◌, ◌∷◌, IfOk, OnOk, [], map, option_map, string_bytes, unwrap_or};
-ghost use Rattle.serde_json.specs.View.{items_view, members_view, view};
+ghost use Rattle.serde_json.specs.View.{members_view, view};
 ghost use Rattle.neldrafi_schema.specs.Drafts.{identifier_in};
-ghost use Rattle.neldrafi_schema.specs.Resources.{all_identifiers, base_by, document_identifiers, identifier, identifiers, named_anchors, of_items, of_keyed, of_members, own_identifiers, recurs};
+ghost use Rattle.neldrafi_schema.specs.Resources.{all_identifiers, base_by, document_identifiers, identifier, named_anchors, own_anchors, recurs};
+ghost use Rattle.neldrafi_schema.specs.Settings.{document_of};
 ghost use Rattle.neldrafi_schema.specs.machine.Compiled.{path_of};
 ghost use Rattle.neldrafi_schema.specs.machine.Identifiers.{anchor_of, identifiers_of};
 ghost use Rattle.neldrafi_schema.specs.machine.Places.{documents_of};
 
+use crate::config::Document;
 use crate::documents::{Documents, SCHEMA_URI};
-use crate::known::{Holding, Known, anchor_in, dynamic_anchor_in, identifier_in, is_recursive};
-use crate::places::{path_below, path_copy};
-use crate::segment::{Segment, Step};
+use crate::known::{anchor_in, dynamic_anchor_in, identifier_in, is_recursive};
+use crate::objects::schema_objects;
+use crate::places::path_copy;
+use crate::segment::Segment;
 use neldrafi_uri::{resolved, split_fragment};
 use serde_json::{Map, Value};
 use std::alloc::{AllocError, Global};
@@ -44,40 +47,42 @@ pub(crate) fn all_identifiers(
         ≡ all_identifiers draft (documents_of documents.entry)) }
 {
     let mut found = Vec::new(alloc);
-    push_of_document(alloc, draft, 0, SCHEMA_URI, documents.schema, &mut found)?;
+    let schema = Document {
+        uri: SCHEMA_URI,
+        value: documents.schema,
+    };
+    push_of_document(alloc, draft, documents, 0, schema, &mut found)?;
     for (place, document) in documents.further.iter().enumerate() {
-        let number = place + 1;
-        push_of_document(
-            alloc,
-            draft,
-            number,
-            document.uri,
-            document.value,
-            &mut found,
-        )?;
+        push_of_document(alloc, draft, documents, place + 1, *document, &mut found)?;
     }
     Ok(found)
 }
 
-// Those of the document of a number, which is known by a URI.
+// Those of the document of a number.
 fn push_of_document(
     alloc: Global,
     draft: Draft,
+    documents: Documents<'_>,
     number: usize,
-    uri: &str,
-    document: &Value,
+    document: Document<'_>,
     found: &mut Vec<Identifier>,
 ) -> Result<(), AllocError>
     ensures { OnOk result (identifiers_of found.new.items ≡ identifiers_of found.old.items
-        ++ document_identifiers draft number uri.now (view document.now)) }
+        ++ document_identifiers draft (documents_of documents.entry) number
+        (document_of document.entry)) }
 {
     let path = [Segment::Document(number)];
     let anchor = Anchor {
         name: "",
-        is_dynamic: recurs(draft, document),
+        is_dynamic: recurs(draft, document.value),
     };
-    push_identifier(alloc, uri, anchor, &path, found)?;
-    push_identifiers(alloc, draft, uri, &path, document, found)
+    push_identifier(alloc, document.uri, anchor, &path, found)?;
+    let schemas = schema_objects(alloc, draft, &path, document.value)?;
+    for schema in &schemas {
+        let base = documents.base_at(alloc, draft, &schema.path)?;
+        push_own(alloc, draft, &base, &schema.path, schema.object, found)?;
+    }
+    Ok(())
 }
 
 // Whether the root of a resource has `$recursiveAnchor`.
@@ -147,98 +152,7 @@ fn push_name(
     }
 }
 
-// Those of the schema at a path, or of the list of schemas there, and those below.
-#[cycle(push_identifiers)]
-fn push_identifiers(
-    alloc: Global,
-    draft: Draft,
-    base: &str,
-    path: &[Segment],
-    value: &Value,
-    found: &mut Vec<Identifier>,
-) -> Result<(), AllocError>
-    ensures { OnOk result (identifiers_of found.new.items ≡ identifiers_of found.old.items
-        ++ identifiers draft base.now (path_of path.now) (view value.now)) }
-{
-    match value {
-        Value::Object(object) => {
-            let own = own_base(alloc, draft, base, object)?;
-            let base = own.as_deref().unwrap_or(base);
-            push_own(alloc, draft, base, path, object, found)?;
-            push_of_members(alloc, draft, base, path, object, found)
-        }
-        Value::Array(items) => push_of_items(alloc, draft, base, path, items, found),
-        _ => Ok(()),
-    }
-}
-
-#[cycle(push_identifiers)]
-fn push_of_items(
-    alloc: Global,
-    draft: Draft,
-    base: &str,
-    path: &[Segment],
-    items: &[Value],
-    found: &mut Vec<Identifier>,
-) -> Result<(), AllocError>
-    ensures { OnOk result (identifiers_of found.new.items ≡ identifiers_of found.old.items
-        ++ of_items draft base.now (path_of path.now) 0 (items_view items.now)) }
-{
-    for (place, item) in items.iter().enumerate() {
-        let below = path_below(alloc, path, Step::Place(place))?;
-        push_identifiers(alloc, draft, base, &below, item, found)?;
-    }
-    Ok(())
-}
-
-#[cycle(push_identifiers)]
-fn push_of_members(
-    alloc: Global,
-    draft: Draft,
-    base: &str,
-    path: &[Segment],
-    object: &Map<String, Value>,
-    found: &mut Vec<Identifier>,
-) -> Result<(), AllocError>
-    ensures { let ms = members_view object.now.entries in
-        OnOk result (identifiers_of found.new.items ≡ identifiers_of found.old.items
-        ++ of_members draft base.now (path_of path.now) ms ms) }
-{
-    for (name, value) in object.iter() {
-        let below = path_below(alloc, path, Step::Key(name.as_str()))?;
-        match Known::among(draft, object, name.as_str()).holding() {
-            Holding::Nothing => {}
-            Holding::OneOrSeveral => push_identifiers(alloc, draft, base, &below, value, found)?,
-            Holding::ByKey => push_of_keyed(alloc, draft, base, &below, value, found)?,
-        }
-    }
-    Ok(())
-}
-
-// Those of an object whose members are schemas.
-#[cycle(push_identifiers)]
-fn push_of_keyed(
-    alloc: Global,
-    draft: Draft,
-    base: &str,
-    path: &[Segment],
-    value: &Value,
-    found: &mut Vec<Identifier>,
-) -> Result<(), AllocError>
-    ensures { OnOk result (identifiers_of found.new.items ≡ identifiers_of found.old.items
-        ++ of_keyed draft base.now (path_of path.now) (view value.now)) }
-{
-    let Value::Object(schemas) = value else {
-        return Ok(());
-    };
-    for (name, schema) in schemas.iter() {
-        let below = path_below(alloc, path, Step::Key(name.as_str()))?;
-        push_identifiers(alloc, draft, base, &below, schema, found)?;
-    }
-    Ok(())
-}
-
-// What the schema object at a path says of itself; its base URI is its own.
+// What a schema object of this base URI says of itself.
 fn push_own(
     alloc: Global,
     draft: Draft,
@@ -248,7 +162,8 @@ fn push_own(
     found: &mut Vec<Identifier>,
 ) -> Result<(), AllocError>
     ensures { OnOk result (identifiers_of found.new.items ≡ identifiers_of found.old.items
-        ++ own_identifiers draft base.now (path_of path.now) (members_view object.now.entries)) }
+        ++ map (identifier base.now (path_of path.now))
+        (own_anchors draft (members_view object.now.entries))) }
 {
     if let Some(identifier) = identifier_in(draft, object) {
         let resource = Anchor {

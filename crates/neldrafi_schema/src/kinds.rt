@@ -310,7 +310,8 @@ pub(crate) fn all_are_valid(verdicts: &[bool]) -> bool
     true
 }
 
-fn is_between(least: u64, most: Option<u64>, count: u64) -> bool
+/// Whether a number is within bounds.
+pub(crate) fn is_between(least: u64, most: Option<u64>, count: u64) -> bool
     ensures { result ≡ is_between least most count }
 {
     least <= count
@@ -330,6 +331,29 @@ fn count_of(verdicts: &[bool]) -> usize
         }
     }
     count
+}
+
+/// Whether an instance has all names that are required by those it has.
+pub(crate) fn has_all_dependents(dependencies: &[Dependency], instance: &Value) -> bool
+    ensures { IsTrue result ↔ (flat_map (missing_beside (view instance.now))
+        (map dependency_of dependencies.now) ≡ []) }
+{
+    for dependency in dependencies {
+        if !has_dependents(dependency, instance) {
+            return false;
+        }
+    }
+    true
+}
+
+fn has_dependents(dependency: &Dependency, instance: &Value) -> bool
+    ensures { IsTrue result
+        ↔ (missing_beside (view instance.now) (dependency_of dependency.now) ≡ []) }
+{
+    if instance.get(dependency.name.as_str()).is_none() {
+        return true;
+    }
+    has_all(&dependency.required, instance)
 }
 
 // Each name that an object has not; any other value lacks none.

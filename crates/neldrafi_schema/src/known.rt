@@ -3,7 +3,7 @@
 ghost use Rattle.std.specs.Prelude.{◌≡◌, ◌++◌, codes, option_map};
 ghost use Rattle.serde_json.specs.View.{members_view, view};
 ghost use Rattle.neldrafi_schema.specs.Resources.{holding};
-ghost use Rattle.neldrafi_schema.specs.Drafts.{anchor_in, begins_anchor, counts, draft_named, draft_number, draft_of, dynamic_anchor_in, goes_on_in_anchor, has_keyword, has_lone_reference, has_unevaluated, identifier_in, ignores_siblings, is_anchor, is_draft_4, is_recursive, is_uri, known_named, name_in, named, since, stays_beside_reference, until};
+ghost use Rattle.neldrafi_schema.specs.Drafts.{anchor_in, applicator_named, begins_anchor, core_named, counts, draft_named, draft_number, draft_of, dynamic_anchor_in, goes_on_in_anchor, has_keyword, has_lone_reference, has_unevaluated, identifier_in, ignores_siblings, is_anchor, is_annotation, is_draft_4, is_keyword, is_of_texts, is_recursive, is_uri, known_named, name_in, named, since, stays_beside_reference, until};
 
 use crate::limits::{Limit, Size};
 use crate::node::Part;
@@ -54,6 +54,18 @@ pub(crate) enum Known {
     Defs,
     Unevaluated(Part),
     Text(TextKeyword),
+    /// `title` or `description`.
+    Description,
+    Default,
+    Examples,
+    Comment,
+    /// `readOnly` or `writeOnly`.
+    Access,
+    Deprecated,
+    /// `contentEncoding` or `contentMediaType`.
+    Content,
+    ContentSchema,
+    Vocabulary,
     Unknown,
 }
 
@@ -87,20 +99,11 @@ impl Known {
         self.is_of(draft) && (self.stays_beside_reference() || !has_lone_reference(draft, object))
     }
 
-    // The keyword of a name, in whichever draft.
+    // The keyword of a name, in whichever draft. These are of Validation.
     fn named(name: &str) -> Known
         ensures { result ≡ named name.now }
     {
         match name {
-            "$schema" => Known::Dialect,
-            "$ref" => Known::Reference,
-            "id" => Known::Draft4Identifier,
-            "$id" => Known::Identifier,
-            "$anchor" => Known::Anchor,
-            "$dynamicRef" => Known::DynamicReference,
-            "$dynamicAnchor" => Known::DynamicAnchor,
-            "$recursiveRef" => Known::RecursiveReference,
-            "$recursiveAnchor" => Known::RecursiveAnchor,
             "type" => Known::Types,
             "enum" => Known::Enumeration,
             "const" => Known::Constant,
@@ -115,6 +118,29 @@ impl Known {
             "maxProperties" => Known::Sized(Size::MaxProperties),
             "uniqueItems" => Known::UniqueItems,
             "required" => Known::Required,
+            "minContains" | "maxContains" => Known::ContainsCount,
+            "dependentRequired" => Known::DependentRequired,
+            "format" => Known::Text(TextKeyword::Format),
+            "minLength" => Known::Text(TextKeyword::MinLength),
+            "maxLength" => Known::Text(TextKeyword::MaxLength),
+            "pattern" => Known::Text(TextKeyword::Pattern),
+            "title" | "description" => Known::Description,
+            "default" => Known::Default,
+            "examples" => Known::Examples,
+            "readOnly" | "writeOnly" => Known::Access,
+            "deprecated" => Known::Deprecated,
+            "contentEncoding" | "contentMediaType" => Known::Content,
+            "contentSchema" => Known::ContentSchema,
+            _ => Known::applicator_named(name),
+        }
+    }
+
+    // Of Core, sections 10 and 11.
+    #[tactic(auto, unfolding(crate::specs::Drafts::applicator_named))]
+    fn applicator_named(name: &str) -> Known
+        ensures { result ≡ applicator_named name.now }
+    {
+        match name {
             "dependencies" => Known::Dependencies,
             "properties" => Known::Properties,
             "patternProperties" => Known::PatternProperties,
@@ -123,9 +149,7 @@ impl Known {
             "items" => Known::Items,
             "additionalItems" => Known::AdditionalItems,
             "contains" => Known::Contains,
-            "minContains" | "maxContains" => Known::ContainsCount,
             "prefixItems" => Known::PrefixItems,
-            "dependentRequired" => Known::DependentRequired,
             "dependentSchemas" => Known::DependentSchemas,
             "allOf" => Known::AllOf,
             "anyOf" => Known::AnyOf,
@@ -134,14 +158,31 @@ impl Known {
             "if" => Known::If,
             "then" => Known::Then,
             "else" => Known::Else,
-            "definitions" => Known::Definitions,
-            "$defs" => Known::Defs,
             "unevaluatedProperties" => Known::Unevaluated(Part::Members),
             "unevaluatedItems" => Known::Unevaluated(Part::Items),
-            "format" => Known::Text(TextKeyword::Format),
-            "minLength" => Known::Text(TextKeyword::MinLength),
-            "maxLength" => Known::Text(TextKeyword::MaxLength),
-            "pattern" => Known::Text(TextKeyword::Pattern),
+            _ => Known::core_named(name),
+        }
+    }
+
+    // Of Core, section 8.
+    #[tactic(auto, unfolding(crate::specs::Drafts::core_named))]
+    fn core_named(name: &str) -> Known
+        ensures { result ≡ core_named name.now }
+    {
+        match name {
+            "$schema" => Known::Dialect,
+            "$ref" => Known::Reference,
+            "id" => Known::Draft4Identifier,
+            "$id" => Known::Identifier,
+            "$anchor" => Known::Anchor,
+            "$dynamicRef" => Known::DynamicReference,
+            "$dynamicAnchor" => Known::DynamicAnchor,
+            "$recursiveRef" => Known::RecursiveReference,
+            "$recursiveAnchor" => Known::RecursiveAnchor,
+            "definitions" => Known::Definitions,
+            "$defs" => Known::Defs,
+            "$comment" => Known::Comment,
+            "$vocabulary" => Known::Vocabulary,
             _ => Known::Unknown,
         }
     }
@@ -159,10 +200,17 @@ impl Known {
         ensures { result ≡ since self }
     {
         match self {
-            Known::Identifier | Known::Constant | Known::PropertyNames | Known::Contains => {
-                Draft::Draft6
-            }
-            Known::If | Known::Then | Known::Else => Draft::Draft7,
+            Known::Identifier
+            | Known::Constant
+            | Known::PropertyNames
+            | Known::Contains
+            | Known::Examples => Draft::Draft6,
+            Known::If
+            | Known::Then
+            | Known::Else
+            | Known::Comment
+            | Known::Access
+            | Known::Content => Draft::Draft7,
             Known::Anchor
             | Known::RecursiveReference
             | Known::RecursiveAnchor
@@ -170,7 +218,10 @@ impl Known {
             | Known::DependentRequired
             | Known::DependentSchemas
             | Known::Defs
-            | Known::Unevaluated(_) => Draft::Draft201909,
+            | Known::Unevaluated(_)
+            | Known::Deprecated
+            | Known::ContentSchema
+            | Known::Vocabulary => Draft::Draft201909,
             Known::PrefixItems | Known::DynamicReference | Known::DynamicAnchor => {
                 Draft::Draft202012
             }
@@ -216,7 +267,8 @@ impl Known {
             | Known::If
             | Known::Then
             | Known::Else
-            | Known::Unevaluated(_) => Holding::OneOrSeveral,
+            | Known::Unevaluated(_)
+            | Known::ContentSchema => Holding::OneOrSeveral,
             _ => Holding::Nothing,
         }
     }
@@ -226,6 +278,39 @@ impl Known {
     {
         matches!(self, Known::Dialect | Known::Reference)
     }
+
+    /// Whether its value annotates instances.
+    pub fn is_annotation(self) -> bool
+        ensures { result ≡ is_annotation self }
+    {
+        match self {
+            Known::Description
+            | Known::Default
+            | Known::Examples
+            | Known::Access
+            | Known::Deprecated
+            | Known::ContentSchema => true,
+            _ => self.is_of_texts(),
+        }
+    }
+
+    /// Whether it is an annotation of strings alone.
+    pub fn is_of_texts(self) -> bool
+        ensures { result ≡ is_of_texts self }
+    {
+        matches!(
+            self,
+            Known::Text(TextKeyword::Format) | Known::Content | Known::ContentSchema
+        )
+    }
+}
+
+/// Whether a draft has a keyword of a name.
+pub(crate) fn is_keyword(draft: Draft, name: &str) -> bool
+    ensures { result ≡ is_keyword draft name.now }
+{
+    let known = Known::named(name);
+    !matches!(known, Known::Unknown) && known.is_of(draft)
 }
 
 /// Whether a draft has keywords that speak of what is evaluated.

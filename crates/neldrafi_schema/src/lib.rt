@@ -1,6 +1,9 @@
 //! A JSON Schema, compiled as it is: which errors a JSON value has by it.
 #![tactic(auto)]
 
+mod annotating;
+mod annotation;
+mod applicators;
 mod assertions;
 mod branches;
 mod collecting;
@@ -12,6 +15,7 @@ mod ends;
 mod equality;
 mod error;
 mod evaluated;
+mod headers;
 mod identifiers;
 mod json_type;
 mod kinds;
@@ -19,8 +23,10 @@ mod known;
 pub mod laws;
 mod leads;
 mod limits;
+mod locations;
 mod node;
 mod numbers;
+mod objects;
 mod places;
 mod problem;
 mod reading;
@@ -32,11 +38,14 @@ mod scopes;
 mod segment;
 mod senses;
 mod targets;
+mod unknown;
 mod validity;
 
+pub use annotation::{Annotation, Evaluation};
 pub use config::{Config, Document};
-pub use error::{ErrorKind, Failure, Fault, ValidationError};
+pub use error::{ErrorKind, Failure, Fault, TextFailure, ValidationError};
 pub use json_type::JsonType;
 pub use limits::{Limit, Size};
 pub use refusal::{SchemaError, SchemaErrorKind};
 pub use schema::Schema;
+pub use unknown::{UnknownKeyword, unknown_keywords};

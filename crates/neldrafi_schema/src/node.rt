@@ -4,14 +4,30 @@ use crate::json_type::JsonType;
 use crate::limits::{Limit, Size};
 use crate::segment::Segment;
 use serde_json::{Number, Value};
-use strkw_keywords::Validator;
+use strkw_keywords::{Keyword as TextKeyword, Validator};
 use strkw_report::Location;
 
-/// A schema of the document, and where it stands.
+/// A schema of the document.
 #[derive(Drop)]
 pub(crate) struct Node<E> {
-    pub location: Location,
+    pub header: Header,
     pub body: Body<E>,
+}
+
+/// Where a schema is, in its document and as a URI, and what its keywords annotate.
+#[derive(Drop)]
+pub(crate) struct Header {
+    pub location: Location,
+    pub absolute: String,
+    pub notes: Vec<Note>,
+}
+
+/// What a keyword says for annotation, of any instance, or of strings alone.
+#[derive(Drop)]
+pub(crate) struct Note {
+    pub keyword: String,
+    pub value: Value,
+    pub of_texts: bool,
 }
 
 /// What a schema says.
@@ -31,7 +47,7 @@ pub(crate) enum Keyword<E> {
     /// Any but the string keywords.
     Rule(Ruled<E>),
     /// One of the string keywords.
-    Text(Validator<E>),
+    Text(TextKeyword, Validator<E>),
 }
 
 /// The rule of a keyword's name, and the schemas to which it leads.
@@ -101,7 +117,7 @@ pub(crate) enum Rule<E> {
     /// `then` and `else`: their schema, and that of `if`.
     WhereValid,
     WhereNotValid,
-    /// `if` without `then` and `else`: only what it evaluates counts.
+    /// `if`: only what it evaluates and annotates counts.
     Condition,
     /// Of the members or items that no keyword beside evaluates.
     Unevaluated(Part),
@@ -112,8 +128,9 @@ pub(crate) enum Rule<E> {
 impl<E> Rule<E> {
     ghost use Rattle.std.specs.Prelude.{◌≡◌, ℕ, List};
     ghost use Rattle.strkw_pattern.specs.declared.engine.Outcome.{Outcome};
+    ghost use Rattle.neldrafi_schema.specs.Annotations.{annotates_nothing};
     ghost use Rattle.neldrafi_schema.specs.Refusals.{is_in_place};
-    ghost use Rattle.neldrafi_schema.specs.Rules.{counts_nothing};
+    ghost use Rattle.neldrafi_schema.specs.Rules.{counts_nothing, is_choice};
     ghost use Rattle.neldrafi_schema.specs.machine.Compiled.{rule_of};
 
     /// Whether its schemas are of the instance itself.
@@ -144,5 +161,21 @@ impl<E> Rule<E> {
             self,
             Rule::Negation(_) | Rule::MemberNames | Rule::Contains(_, _, false)
         )
+    }
+
+    /// Whether its schemas annotate nothing of the instance.
+    pub fn annotates_nothing(&self) -> bool
+        ensures { (outcome : E → List ℕ → Outcome)
+            → result ≡ annotates_nothing (rule_of outcome self.now) }
+    {
+        matches!(self, Rule::Negation(_) | Rule::MemberNames)
+    }
+
+    /// Whether what it tests counts by another keyword.
+    pub fn is_choice(&self) -> bool
+        ensures { (outcome : E → List ℕ → Outcome)
+            → result ≡ is_choice (rule_of outcome self.now) }
+    {
+        matches!(self, Rule::WhereValid | Rule::WhereNotValid)
     }
 }

@@ -10,13 +10,14 @@ ghost use Rattle.strkw_keywords.specs.Meanings.{Lists};
 ghost use Rattle.strkw_keywords.specs.Values.{AreValuesOf};
 ghost use Rattle.neldrafi_schema.specs.Drafts.{known_named};
 ghost use Rattle.neldrafi_schema.specs.Documents.{value_in};
-ghost use Rattle.neldrafi_schema.specs.Paths.{Path, key, location_of as location_text};
+ghost use Rattle.neldrafi_schema.specs.Headers.{header_at};
+ghost use Rattle.neldrafi_schema.specs.Paths.{Path, key};
 ghost use Rattle.neldrafi_schema.specs.References.{schema_referred};
 ghost use Rattle.neldrafi_schema.specs.Scopes.{ScopedPath};
 ghost use Rattle.neldrafi_schema.specs.Values.{reference_sense};
 ghost use Rattle.neldrafi_schema.specs.Reading.{BodySays, KnownSays, PatternPropertiesSay, PatternsAre, SenseSays, TextSays, handed};
 ghost use Rattle.neldrafi_schema.specs.Settings.{config_settings, keyword_settings};
-ghost use Rattle.neldrafi_schema.specs.machine.Compiled.{path_of};
+ghost use Rattle.neldrafi_schema.specs.machine.Compiled.{header_of, path_of};
 ghost use Rattle.neldrafi_schema.specs.machine.Identifiers.{IsLibraryOf};
 ghost use Rattle.neldrafi_schema.specs.machine.Leads.{AreLeads, IsThere, boolean_of};
 ghost use Rattle.neldrafi_schema.specs.machine.Places.{documents_of, Grown, IsTable, scope_of, scoped_paths};
@@ -89,12 +90,13 @@ impl<'v, B: EngineBuilder> Reader<'_, '_, 'v, B> {
             (documents_of places.old.documents) (scope_of scope.now) (path_of path.now)
             (view value.now) body) (scope_of scope.now) (path_of path.now)
             (scoped_paths places.new.places.items) first.old first.new node.body) }
-        ensures location { IfOk result (λ node. node.location ≡ location_text (path_of path.now)) }
+        ensures header { IfOk result (λ node. header_of node.header ≡ header_at
+            self.now.library.now.draft (documents_of places.old.documents) (path_of path.now)) }
         ensures grown { OnOk result (Grown places.old places.new) }
     {
         let body = self.read_body(scope, path, value, places, first)?;
-        let location = location_of(self.alloc, path)?;
-        Ok(Node { location, body })
+        let header = self.library.header_at(self.alloc, path, value)?;
+        Ok(Node { header, body })
     }
 
     // What it says.
@@ -353,7 +355,7 @@ impl<'v, B: EngineBuilder> Reader<'_, '_, 'v, B> {
     {
         match self.compiled_member(member, keyword)? {
             None => Ok(Said::Nothing),
-            Some(Ok(validator)) => Ok(Said::Keyword(Keyword::Text(validator))),
+            Some(Ok(validator)) => Ok(Said::Keyword(Keyword::Text(keyword, validator))),
             Some(Err(refusal)) => Ok(Said::Malformed(SchemaErrorKind::Text(refusal))),
         }
     }
@@ -368,7 +370,7 @@ impl<'v, B: EngineBuilder> Reader<'_, '_, 'v, B> {
             decoding self.now.config.now) { draft = self.now.library.now.draft } in
             (at : Path) → IfOk result (λ found. TextSays
             (keyword_settings s (path_of member.now.path.now) keyword) at keyword
-            (view member.now.value.now) (read_keywords B.Engine.outcome at found)) }
+            (view member.now.value.now) (read_keywords B.Engine.outcome at keyword found)) }
         ensures ready { IfOk result (IsReadReady B.Engine.outcome
             (lists_of admits accepts is_encoding decoding self.now.config.now.checks) keyword) }
     {
@@ -389,7 +391,7 @@ impl<'v, B: EngineBuilder> Reader<'_, '_, 'v, B> {
             decoding self.now.config.now) { draft = self.now.library.now.draft } in
             (at : Path) (d : Data) → view value.now ≡ handed keyword d
             → IfOk result (λ found. TextSays (keyword_settings s (path_of path.now) keyword) at
-            keyword d (read_keywords B.Engine.outcome at found)) }
+            keyword d (read_keywords B.Engine.outcome at keyword found)) }
         ensures ready { IfOk result (IsReadReady B.Engine.outcome
             (lists_of admits accepts is_encoding decoding self.now.config.now.checks) keyword) }
     {

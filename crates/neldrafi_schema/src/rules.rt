@@ -1,12 +1,13 @@
 //! What a rule reports itself of an instance, and the values of which its schemas have to report all errors.
 
-ghost use Rattle.std.specs.Prelude.{IfOk, IsTrue, OnOk, Some, [], drop, if◌then◌else◌, length, map, option_map, string_bytes, true, ◌++◌, ◌<◌, ◌≡◌};
+ghost use Rattle.std.specs.Prelude.{IfOk, IsTrue, OnOk, Some, [], drop, if◌then◌else◌, length, map, option_map, string_bytes, true, ◌++◌, ◌<◌, ◌↔◌, ◌≡◌};
 ghost use Rattle.std.specs.List.{AllByRecursion, filter, flat_map, list_any};
 ghost use Rattle.serde_json.specs.View.{view};
 ghost use Rattle.strkw_keywords.specs.Meanings.{Lists};
 ghost use Rattle.strkw_keywords.specs.Validators.{assertions_of};
 ghost use Rattle.neldrafi_schema.specs.Errors.{unexpected_items, unexpected_members};
 ghost use Rattle.neldrafi_schema.specs.Rules.{applied, first_of, is_matched, is_named, kinds, leads_to, members_in, none_allowed, on_itself, on_matched, on_members, other_members_in, placed_items};
+ghost use Rattle.neldrafi_schema.specs.machine.Chosen.{IsChosenReady, is_chosen};
 ghost use Rattle.neldrafi_schema.specs.machine.Closures.{MayTest, Tests};
 ghost use Rattle.neldrafi_schema.specs.machine.Compiled.{branch_of, branches_of, keyword_of, keywords_of, rule_of, segment_of, targets_of};
 ghost use Rattle.neldrafi_schema.specs.machine.Found.{kinds_of};
@@ -25,6 +26,14 @@ use serde_json::Value;
 use std::alloc::{AllocError, Global};
 use strkw_keywords::Validator;
 use strkw_pattern::RegexEngine;
+
+/// To which members a schema applies: to those to which no rule beside leads, where the keys of `properties` may be in
+/// order, or to those whose names a pattern matches.
+#[derive(Clone, Copy)]
+pub(crate) enum Chosen<'k, E> {
+    Others(&'k [Keyword<E>], bool),
+    Matched(&'k Validator<E>),
+}
 
 impl<E: RegexEngine, T: Fn(&Validator<E>, Option<&str>) -> Result<bool, AllocError>> Checker<
     '_,
@@ -98,6 +107,43 @@ impl<E: RegexEngine, T: Fn(&Validator<E>, Option<&str>) -> Result<bool, AllocErr
             }
         }
         Ok(names)
+    }
+
+    // Whether a rule leads to each member.
+    pub(crate) fn leads_to_all(
+        &self,
+        beside: &[Keyword<E>],
+        instance: &Value,
+    ) -> Result<bool, AllocError>
+        requires others { AllByRecursion (IsKeywordReady E.outcome
+            (MayTest T.Fn self.now.text_accepts.now) (length self.now.nodes.now)) beside.now }
+        ensures { (lists : Lists) → Tests T.Fn self.now.text_accepts.now E.outcome lists
+            → IfOk result (λ b. IsTrue b ↔ (other_members_in (keywords_of E.outcome beside.now)
+            (view instance.now) ≡ [])) }
+    {
+        let Some(members) = instance.as_object() else {
+            return Ok(true);
+        };
+        let in_order = are_all_in_order(beside);
+        for (key, _) in members.iter() {
+            if !self.is_led_to(beside, in_order, key.as_str())? {
+                return Ok(false);
+            }
+        }
+        Ok(true)
+    }
+
+    // Whether a schema applies to the member of a name.
+    pub(crate) fn chooses(&self, chosen: &Chosen<'_, E>, name: &str) -> Result<bool, AllocError>
+        requires { IsChosenReady E.outcome (MayTest T.Fn self.now.text_accepts.now)
+            (length self.now.nodes.now) chosen.now }
+        ensures { (lists : Lists) → Tests T.Fn self.now.text_accepts.now E.outcome lists
+            → IfOk result (λ b. b ≡ is_chosen E.outcome chosen.now name.now) }
+    {
+        match chosen {
+            Chosen::Others(beside, in_order) => Ok(!self.is_led_to(beside, *in_order, name)?),
+            Chosen::Matched(pattern) => self.matches(pattern, name),
+        }
     }
 
     // The values of which a keyword's schemas have to report all errors, by the verdicts.
@@ -297,8 +343,8 @@ impl<E: RegexEngine, T: Fn(&Validator<E>, Option<&str>) -> Result<bool, AllocErr
 // So many keys are compared one by one in less time than it takes to search them.
 const FEW: usize = 64;
 
-// Whether the keys of `properties` are many and in order, as those of an object's members are: they are then searched.
-fn are_all_in_order<E>(keywords: &[Keyword<E>]) -> bool
+/// Whether the keys of `properties` are many and in order, as those of an object's members are: they are then searched.
+pub(crate) fn are_all_in_order<E>(keywords: &[Keyword<E>]) -> bool
     ensures { IsTrue result → AllByRecursion IsInOrder keywords.now }
 {
     for keyword in keywords {
@@ -380,6 +426,16 @@ fn on_first<'a>(
     match branches {
         [first, ..] if counts => on_itself(alloc, std::slice::from_ref(first), instance),
         _ => Ok(Vec::new(alloc)),
+    }
+}
+
+/// Whether there are no items from a place on.
+pub(crate) fn has_no_items_from(from: usize, instance: &Value) -> bool
+    ensures { IsTrue result ↔ (drop from (placed_items (view instance.now)) ≡ []) }
+{
+    match instance.as_array() {
+        Some(items) => items.len() <= from,
+        None => true,
     }
 }
 

@@ -4,9 +4,11 @@ ghost use Rattle.std.specs.Prelude.{◌↔◌, ◌≡◌, ◌⊎◌, ◌++◌, �
 ghost use Rattle.serde_json.specs.View.{view};
 ghost use Rattle.strkw_keywords.specs.Handed.{lists_of};
 ghost use Rattle.neldrafi_schema.specs.Errors.{Error};
+ghost use Rattle.neldrafi_schema.specs.Annotations.{HasAnnotations};
+ghost use Rattle.neldrafi_schema.specs.machine.Annotated.{annotations_of};
 ghost use Rattle.neldrafi_schema.specs.machine.Closures.{AreTextErrors, IsTextVerdict, text_in};
 ghost use Rattle.neldrafi_schema.specs.machine.Found.{Appended, IsAnswer, errors_of};
-ghost use Rattle.neldrafi_schema.specs.Meaning.{HasErrors};
+ghost use Rattle.neldrafi_schema.specs.Meaning.{HasErrors, root_site};
 ghost use Rattle.neldrafi_schema.specs.machine.Problems.{reason_of};
 ghost use Rattle.neldrafi_schema.specs.machine.Ready.{RestsOn};
 ghost use Rattle.neldrafi_schema.specs.machine.Words.{IsCompiled, lists_in, schemas_in};
@@ -14,6 +16,7 @@ ghost use Rattle.neldrafi_schema.specs.Refusals.{IsRefused, IsSaid};
 ghost use Rattle.neldrafi_schema.specs.Schemas.{out_of_memory};
 ghost use Rattle.neldrafi_schema.specs.Settings.{config_settings, documents_for};
 
+use crate::annotation::{Annotation, Evaluation};
 use crate::collecting::{Collector, Visit};
 use crate::compile::read_document;
 use crate::config::Config;
@@ -135,6 +138,66 @@ impl<'a, E: RegexEngine> Schema<'a, E> {
         errors.append(&mut self.errors(alloc, instance)?)
     }
 
+    /// The errors of an instance, as `collect_errors` appends them, and its annotations if it has no errors: those of
+    /// each schema object that applies to the instance or a part of it, before those of its subschemas, in the order of
+    /// the document's members (Core 2020-12, section 7.7.1). What is not valid by a schema has no annotations of it.
+    /// Those of `format`, `contentEncoding`, `contentMediaType` and `contentSchema` are of strings alone. The only error
+    /// is out of memory.
+    pub fn evaluate(&self, alloc: Global, instance: &Value) -> Result<Evaluation, AllocError>
+        requires { IsCompiled E.outcome
+            (lists_in admits accepts is_encoding decoding self.now) self.now }
+        ensures errors { IfOk result (λ e. HasErrors (schemas_in E.outcome self.now)
+            (lists_in admits accepts is_encoding decoding self.now)
+            (view instance.now) (errors_of e.errors.items)) }
+        ensures annotations { IfOk result (λ e. HasAnnotations (schemas_in E.outcome self.now)
+            (lists_in admits accepts is_encoding decoding self.now)
+            (view instance.now) (errors_of e.errors.items) (annotations_of e.annotations.items)) }
+    {
+        let errors = self.errors(alloc, instance)?;
+        let annotations = if errors.is_empty() {
+            self.annotations(alloc, instance)?
+        } else {
+            Vec::new(alloc)
+        };
+        Ok(Evaluation {
+            errors,
+            annotations,
+        })
+    }
+
+    // The annotations of an instance that is valid.
+    fn annotations(&self, alloc: Global, instance: &Value) -> Result<Vec<Annotation>, AllocError>
+        requires { IsCompiled E.outcome
+            (lists_in admits accepts is_encoding decoding self.now) self.now }
+        ensures { IfOk result (λ found. HasAnnotations (schemas_in E.outcome self.now)
+            (lists_in admits accepts is_encoding decoding self.now)
+            (view instance.now) [] (annotations_of found.items)) }
+    {
+        let checks = &self.checks;
+        let text_accepts = |validator: &Validator<E>, text: Option<&str>| -> Result<
+            bool,
+            AllocError,
+        >
+            requires { RestsOn E.outcome
+                (lists_of admits accepts is_encoding decoding checks.now) validator.now }
+            ensures { IsTextVerdict E.outcome
+                (lists_of admits accepts is_encoding decoding checks.entry.now)
+                validator.now (text_in text.entry) result }
+        { validator.is_valid(alloc, &text, checks) };
+        let checker = Checker {
+            nodes: &self.nodes,
+            text_accepts: &text_accepts,
+        };
+        let site = root_site(alloc);
+        let visit = Visit {
+            instance,
+            site: &site,
+        };
+        let mut found = Vec::new(alloc);
+        checker.annotate(alloc, 0, self.nodes.len(), &visit, &mut found)?;
+        Ok(found)
+    }
+
     // The errors of an instance.
     fn errors(&self, alloc: Global, instance: &Value) -> Result<Vec<ValidationError>, AllocError>
         requires { IsCompiled E.outcome
@@ -175,10 +238,7 @@ impl<'a, E: RegexEngine> Schema<'a, E> {
             },
             text_errors: &text_errors,
         };
-        let site = Site {
-            evaluation: Location::root(alloc),
-            instance: Location::root(alloc),
-        };
+        let site = root_site(alloc);
         let visit = Visit {
             instance,
             site: &site,
@@ -186,5 +246,15 @@ impl<'a, E: RegexEngine> Schema<'a, E> {
         let mut errors = Vec::new(alloc);
         collector.push_errors(alloc, 0, self.nodes.len(), &visit, &mut errors)?;
         Ok(errors)
+    }
+}
+
+// Where a schema and an instance are that are not within others.
+fn root_site(alloc: Global) -> Site
+    ensures { result ≡ root_site }
+{
+    Site {
+        evaluation: Location::root(alloc),
+        instance: Location::root(alloc),
     }
 }

@@ -8,7 +8,7 @@ ghost use Rattle.neldrafi_uri.specs.Components.{fragment_of};
 ghost use Rattle.neldrafi_schema.specs.Documents.{Documents};
 ghost use Rattle.neldrafi_schema.specs.Paths.{key};
 ghost use Rattle.neldrafi_schema.specs.References.{schema_referred};
-ghost use Rattle.neldrafi_schema.specs.Values.{additional_sense, anchor_sense, branch_sense, contains_rule, count_beside, dependencies_sense, dialect_sense, has_placed_items, has_some, identifier_sense, if_rule, is_condition, items_sense, lead_to, list_sense, map_sense, nothing, of_kind, others_sense, reference_sense, says, sense};
+ghost use Rattle.neldrafi_schema.specs.Values.{additional_sense, anchor_sense, branch_sense, contains_rule, count_beside, dependencies_sense, dialect_sense, has_placed_items, has_some, identifier_sense, items_sense, lead_to, list_sense, map_sense, nothing, of_kind, others_sense, reference_sense, says, sense};
 ghost use Rattle.neldrafi_schema.specs.machine.Compiled.{path_of, rule_of};
 ghost use Rattle.neldrafi_schema.specs.machine.Identifiers.{IsLibrary};
 ghost use Rattle.neldrafi_schema.specs.machine.Leads.{AreLeads, IsThere};
@@ -93,6 +93,7 @@ pub(crate) fn sense_of<'v, E: Drop>(
         Known::Definitions | Known::Defs => map_sense(alloc, Rule::Held, member),
         Known::Dependencies => dependencies_sense(alloc, draft, member),
         Known::PropertyNames => one_sense(alloc, Rule::MemberNames, member),
+        Known::ContentSchema => one_sense(alloc, Rule::Held, member),
         Known::Contains => one_sense(alloc, contains_rule(draft, member.object), member),
         Known::DependentSchemas => map_sense(alloc, Rule::Dependent(Vec::new(alloc)), member),
         Known::PrefixItems => list_sense(alloc, Rule::Placed, member),
@@ -100,7 +101,7 @@ pub(crate) fn sense_of<'v, E: Drop>(
             let (none, some) = (Rule::Unevaluated(part), Rule::Unevaluated(part));
             others_sense(alloc, draft, none, some, member)
         }
-        Known::If => one_sense(alloc, if_rule(draft, member.object), member),
+        Known::If => one_sense(alloc, Rule::Condition, member),
         Known::Not => one_sense(alloc, Rule::Negation(value.clone()?), member),
         Known::Then => branch_sense(alloc, Rule::WhereValid, member),
         Known::Else => branch_sense(alloc, Rule::WhereNotValid, member),
@@ -357,25 +358,6 @@ fn branch_sense<'v, E: Drop>(
         place: Place { path, value },
     })?;
     Ok(Sense::Says(rule, leads))
-}
-
-fn if_rule<E: Drop>(draft: Draft, object: &Map<String, Value>) -> Rule<E>
-    ensures { (outcome : E → List ℕ → Outcome) → rule_of outcome result
-        ≡ if_rule draft (members_view object.now.entries) }
-{
-    if is_condition(draft, object) {
-        Rule::Condition
-    } else {
-        Rule::Held
-    }
-}
-
-// Whether of `if` only what it evaluates counts.
-fn is_condition(draft: Draft, object: &Map<String, Value>) -> bool
-    ensures { result ≡ is_condition draft (members_view object.now.entries) }
-{
-    let branches = member_at(object, "then").is_some() || member_at(object, "else").is_some();
-    has_unevaluated(draft) && !branches
 }
 
 // How many items have to be valid, and whether they count as evaluated.

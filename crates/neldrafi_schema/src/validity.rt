@@ -6,6 +6,7 @@ ghost use Rattle.serde_json.specs.View.{view};
 ghost use Rattle.strkw_report.specs.declared.error.Site.{Site};
 ghost use Rattle.strkw_keywords.specs.Meanings.{Lists};
 ghost use Rattle.neldrafi_schema.specs.Meaning.{AreVerdicts, EachReports, KeywordReports, Reports};
+ghost use Rattle.neldrafi_schema.specs.Schemas.{Header};
 ghost use Rattle.neldrafi_schema.specs.Refusals.{ends, in_place, is_in_place, keywords_end};
 ghost use Rattle.neldrafi_schema.specs.Rules.{on_child, on_items, placed_items, tested};
 ghost use Rattle.neldrafi_schema.specs.machine.Closures.{MayTest, Tests};
@@ -15,10 +16,12 @@ ghost use Rattle.neldrafi_schema.specs.machine.Found.{kinds_of};
 ghost use Rattle.neldrafi_schema.specs.machine.Left.{AreFindings};
 ghost use Rattle.neldrafi_schema.specs.machine.Ready.{IsKeywordReady, IsReady, IsRuledReady, steps_for};
 
+use crate::applicators::{Bounds, bounds_of, only_branch};
 use crate::conditions::{Choice, Conditional, choice_of, condition_of};
 use crate::error::ErrorKind;
-use crate::kinds::{left_kinds, plain_verdict};
+use crate::kinds::{has_all_dependents, left_kinds, plain_verdict};
 use crate::node::{Body, Branch, Keyword, Node, Rule, Ruled};
+use crate::rules::has_no_items_from;
 use crate::targets::{Target, child_of, on_each, placed_count, tested};
 use serde_json::Value;
 use std::alloc::{AllocError, Global};
@@ -132,11 +135,11 @@ impl<E: RegexEngine, T: Fn(&Validator<E>, Option<&str>) -> Result<bool, AllocErr
             → IsKnown (Reports (schemas_of E.outcome self.now.nodes.now) lists k)
             (view instance.now) conditional.now.condition }
         ensures { (lists : Lists) → Tests T.Fn self.now.text_accepts.now E.outcome lists
-            → IfOk result (λ b. (k : ℕ) (location : List ℕ) (site : Site)
+            → IfOk result (λ b. (k : ℕ) (header : Header) (site : Site)
             → steps_for (length self.now.nodes.now) (view instance.now) steps ≤ k
             → IsTrue b ↔ KeywordReports
             (schemas_of E.outcome self.now.nodes.now)
-            (Reports (schemas_of E.outcome self.now.nodes.now) lists k) lists location
+            (Reports (schemas_of E.outcome self.now.nodes.now) lists k) lists header
             (keywords_of E.outcome beside.now) (keyword_of E.outcome conditional.now.keyword.now)
             (view instance.now) site []) }
     {
@@ -172,16 +175,16 @@ impl<E: RegexEngine, T: Fn(&Validator<E>, Option<&str>) -> Result<bool, AllocErr
         requires end { list_all (ends (schemas_of E.outcome self.now.nodes.now) steps)
             (in_place (keyword_of E.outcome keyword.now)) ≡ true }
         ensures { (lists : Lists) → Tests T.Fn self.now.text_accepts.now E.outcome lists
-            → IfOk result (λ b. (k : ℕ) (location : List ℕ) (site : Site)
+            → IfOk result (λ b. (k : ℕ) (header : Header) (site : Site)
             → steps_for (length self.now.nodes.now) (view instance.now) steps ≤ k
             → IsTrue b ↔ KeywordReports
             (schemas_of E.outcome self.now.nodes.now)
-            (Reports (schemas_of E.outcome self.now.nodes.now) lists k) lists location
+            (Reports (schemas_of E.outcome self.now.nodes.now) lists k) lists header
             (keywords_of E.outcome beside.now) (keyword_of E.outcome keyword.now)
             (view instance.now) site []) }
     {
         match keyword {
-            Keyword::Text(validator) => (self.text_accepts)(validator, instance.as_str()),
+            Keyword::Text(_, validator) => (self.text_accepts)(validator, instance.as_str()),
             Keyword::Rule(ruled) => self.rule_accepts(alloc, beside, ruled, steps, instance),
         }
     }
@@ -209,11 +212,11 @@ impl<E: RegexEngine, T: Fn(&Validator<E>, Option<&str>) -> Result<bool, AllocErr
         requires end { list_all (ends (schemas_of E.outcome self.now.nodes.now) steps)
             (in_place (ruled_of E.outcome ruled.now)) ≡ true }
         ensures { (lists : Lists) → Tests T.Fn self.now.text_accepts.now E.outcome lists
-            → IfOk result (λ b. (k : ℕ) (location : List ℕ) (site : Site)
+            → IfOk result (λ b. (k : ℕ) (header : Header) (site : Site)
             → steps_for (length self.now.nodes.now) (view instance.now) steps ≤ k
             → IsTrue b ↔ KeywordReports
             (schemas_of E.outcome self.now.nodes.now)
-            (Reports (schemas_of E.outcome self.now.nodes.now) lists k) lists location
+            (Reports (schemas_of E.outcome self.now.nodes.now) lists k) lists header
             (keywords_of E.outcome beside.now) (ruled_of E.outcome ruled.now)
             (view instance.now) site []) }
     {
@@ -223,9 +226,36 @@ impl<E: RegexEngine, T: Fn(&Validator<E>, Option<&str>) -> Result<bool, AllocErr
             Rule::OtherItems => {
                 self.items_accept(alloc, &ruled.branches, placed_count(beside), instance)
             }
-            rule => match plain_verdict(rule, instance) {
-                Some(holds) => Ok(holds),
+            Rule::Reference => self.all_accept(alloc, &ruled.branches, steps, instance),
+            Rule::AllOf => self.all_accept(alloc, &ruled.branches, steps, instance),
+            Rule::OtherMembers => self.others_accept(alloc, beside, &ruled.branches, instance),
+            Rule::NoOtherMembers => self.leads_to_all(beside, instance),
+            Rule::Matching(patterns) => {
+                self.matched_accept(alloc, patterns, &ruled.branches, instance)
+            }
+            Rule::Dependent(dependencies) => {
+                if !has_all_dependents(dependencies, instance) {
+                    return Ok(false);
+                }
+                self.present_accept(alloc, &ruled.branches, steps, instance)
+            }
+            Rule::Contains(least, most, _) => match only_branch(&ruled.branches) {
+                Some(branch) => {
+                    let bounds = Bounds {
+                        least: *least,
+                        most: *most,
+                    };
+                    self.items_counted(alloc, branch, bounds, instance)
+                }
                 None => self.found_accepts(alloc, beside, ruled, steps, instance),
+            },
+            Rule::NoOtherItems => Ok(has_no_items_from(placed_count(beside), instance)),
+            rule => match (plain_verdict(rule, instance), bounds_of(rule)) {
+                (Some(holds), _) => Ok(holds),
+                (None, Some(bounds)) => {
+                    self.counted_accept(alloc, &ruled.branches, bounds, steps, instance)
+                }
+                (None, None) => self.found_accepts(alloc, beside, ruled, steps, instance),
             },
         }
     }
@@ -345,11 +375,11 @@ impl<E: RegexEngine, T: Fn(&Validator<E>, Option<&str>) -> Result<bool, AllocErr
         requires end { list_all (ends (schemas_of E.outcome self.now.nodes.now) steps)
             (in_place (ruled_of E.outcome ruled.now)) ≡ true }
         ensures { (lists : Lists) → Tests T.Fn self.now.text_accepts.now E.outcome lists
-            → IfOk result (λ b. (k : ℕ) (location : List ℕ) (site : Site)
+            → IfOk result (λ b. (k : ℕ) (header : Header) (site : Site)
             → steps_for (length self.now.nodes.now) (view instance.now) steps ≤ k
             → IsTrue b ↔ KeywordReports
             (schemas_of E.outcome self.now.nodes.now)
-            (Reports (schemas_of E.outcome self.now.nodes.now) lists k) lists location
+            (Reports (schemas_of E.outcome self.now.nodes.now) lists k) lists header
             (keywords_of E.outcome beside.now) (ruled_of E.outcome ruled.now)
             (view instance.now) site []) }
     {

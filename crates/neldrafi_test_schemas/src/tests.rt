@@ -2,17 +2,23 @@
 //! `tools/refusals.py` runs those whose names end in `_under_refusal` with each growth refused in turn too, when they
 //! may also end as out of memory.
 
+mod annotations;
 mod answers;
 mod basics;
+mod by_draft;
 mod combined;
 mod depth;
 mod documents;
 mod drafts;
 mod dynamic;
+mod evaluation;
 mod items;
+mod numbers;
 mod references;
 mod refusals;
+mod settings;
 mod sizes;
 mod types;
 mod unevaluated;
+mod unknown;
 mod values;

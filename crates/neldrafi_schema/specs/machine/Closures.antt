@@ -1,6 +1,6 @@
 -- The closures that call string keywords: when they may be called, and that what they answer is what
 -- the keywords report by some lists.
-use Rattle.std.specs.Prelude.{◌≡◌, ◌↔◌, ℕ, List, [], Bool, IsTrue, Result, IfOk, Option, option_map, Vec, map}
+use Rattle.std.specs.Prelude.{◌≡◌, ◌↔◌, ℕ, List, [], Bool, IsTrue, Result, IfOk, Option, option_map, Vec}
 use Rattle.std.specs.Borrow.{Bor}
 use Rattle.std.specs.Fn.{Shared}
 use Rattle.std.specs.declared.alloc.Global.{Global}
@@ -10,8 +10,9 @@ use Rattle.strkw_pattern.specs.declared.engine.Outcome.{Outcome}
 use Rattle.strkw_keywords.specs.Meanings.{Lists}
 use Rattle.strkw_keywords.specs.Validators.{assertions_of}
 use Rattle.strkw_keywords.specs.declared.validator.Validator.{Validator}
-use Rattle.neldrafi_schema.specs.Errors.{of_text}
+use Rattle.strkw_keywords.specs.Errors.{NodeReports}
 use Rattle.neldrafi_schema.specs.Meaning.{TextReports}
+use Rattle.neldrafi_schema.specs.Schemas.{Header}
 
 -- a text, or none, as it is handed to a closure
 abbrev pub Handed : Type 0
@@ -24,13 +25,12 @@ module _ {E X : Type 0} (outcome : E → List ℕ → Outcome) (lists : Lists) (
     (text : Option (List ℕ)) where
   -- whether a text has no errors by a string keyword
   abbrev pub IsTextVerdict : Result Bool X → Type 0
-  IsTextVerdict r = IfOk r (λ b. (site : Site) → IsTrue b
-      ↔ TextReports lists (assertions_of outcome v) text site [])
+  IsTextVerdict r = IfOk r (λ b. (header : Header) (word : List ℕ) (site : Site) → IsTrue b
+      ↔ TextReports lists header word (assertions_of outcome v) text site [])
 
   -- its errors
   abbrev pub AreTextErrors : Site → Result (Vec Report Global) X → Type 0
-  AreTextErrors site r = IfOk r (λ es.
-      TextReports lists (assertions_of outcome v) text site (map of_text es.items))
+  AreTextErrors site r = IfOk r (λ es. NodeReports (assertions_of outcome v) lists site text es.items)
 
 module _ {E F X : Type 0} (call : Shared F (Bor (Validator E) × (Handed × Unit {0}))
     (Result Bool X)) (f : F) where

@@ -3,6 +3,7 @@ use Rattle.std.specs.Prelude.{ℕ, List, map, option_map, string_bytes}
 use Rattle.serde_json.specs.Data.{Data}
 use Rattle.serde_json.specs.View.{number_view, view}
 use Rattle.strkw_pattern.specs.declared.engine.Outcome.{Outcome}
+use Rattle.strkw_keywords.specs.Keywords.{keyword_name}
 use Rattle.strkw_keywords.specs.Validators.{assertions_of}
 use Rattle.neldrafi_schema.specs.declared.segment.Segment.{Segment as CompiledSegment}
 use Rattle.neldrafi_schema.specs.declared.segment.Segment.TheVariants as segment
@@ -14,6 +15,8 @@ use Rattle.neldrafi_schema.specs.declared.targets.Target.{Target as FoundTarget}
 use Rattle.neldrafi_schema.specs.declared.targets.Child.{Child as FoundChild}
 use Rattle.neldrafi_schema.specs.Rules.{Child}
 use Rattle.neldrafi_schema.specs.declared.node.Node.{Node}
+use Rattle.neldrafi_schema.specs.declared.node.Header.{Header as CompiledHeader}
+use Rattle.neldrafi_schema.specs.declared.node.Note.{Note as CompiledNote}
 use Rattle.neldrafi_schema.specs.declared.node.Branch.{Branch as CompiledBranch}
 use Rattle.neldrafi_schema.specs.declared.node.Dependency.{Dependency as CompiledDependency}
 use Rattle.neldrafi_schema.specs.declared.node.Rule.{Rule as CompiledRule}
@@ -31,7 +34,7 @@ use Rattle.neldrafi_schema.specs.Schemas.{properties, matching, other_members, n
 use Rattle.neldrafi_schema.specs.Schemas.{member_names, placed, other_items, no_other_items, negation}
 use Rattle.neldrafi_schema.specs.Schemas.{any_of, one_of, contains, where_valid, where_not_valid, condition, unevaluated, held}
 use Rattle.neldrafi_schema.specs.Schemas.{Branch, Keyword, rule, string_keyword}
-use Rattle.neldrafi_schema.specs.Schemas.{Body, always, never, keywords, Schema}
+use Rattle.neldrafi_schema.specs.Schemas.{Body, always, never, keywords, Note, Header, Schema}
 
 -- ---- segments
 
@@ -76,6 +79,19 @@ branch_of b = record { key = option_map segment_of b.key; schema = b.schema }
 abbrev pub branches_of : List CompiledBranch → List Branch
 branches_of bs = map branch_of bs
 
+abbrev pub note_of : CompiledNote → Note
+note_of n = record { keyword = string_bytes n.keyword; value = view n.value; of_texts = n.of_texts }
+
+abbrev pub notes_of : List CompiledNote → List Note
+notes_of ns = map note_of ns
+
+abbrev pub header_of : CompiledHeader → Header
+header_of h = record {
+  location = h.location;
+  absolute = string_bytes h.absolute;
+  notes = notes_of h.notes.items;
+}
+
 abbrev pub dependency_of : CompiledDependency → Dependency
 dependency_of d = (string_bytes d.name, map string_bytes d.required.items)
 
@@ -115,7 +131,7 @@ module _ {E : Type 0} (outcome : E → List ℕ → Outcome) where
 
   abbrev pub keyword_of : CompiledKeyword E → Keyword
   keyword_of (keyword.Rule r) = ruled_of r
-  keyword_of (keyword.Text v) = string_keyword (assertions_of outcome v)
+  keyword_of (keyword.Text k v) = string_keyword (keyword_name k) (assertions_of outcome v)
 
   abbrev pub keywords_of : List (CompiledKeyword E) → List Keyword
   keywords_of ks = map keyword_of ks
@@ -126,7 +142,7 @@ module _ {E : Type 0} (outcome : E → List ℕ → Outcome) where
   body_of (body.Keywords ks) = keywords (keywords_of ks.items)
 
   abbrev pub schema_of : Node E → Schema
-  schema_of node = record { location = node.location; body = body_of node.body }
+  schema_of node = record { header = header_of node.header; body = body_of node.body }
 
   abbrev pub schemas_of : List (Node E) → List Schema
   schemas_of nodes = map schema_of nodes

@@ -6,7 +6,7 @@ use Rattle.strkw_keywords.specs.Meanings.{Lists}
 use Rattle.neldrafi_schema.specs.declared.conditions.Choice.{Choice}
 use Rattle.neldrafi_schema.specs.declared.conditions.Choice.TheVariants.{Unknown, Passes, Leads}
 use Rattle.neldrafi_schema.specs.Meaning.{Below, KeywordReports}
-use Rattle.neldrafi_schema.specs.Schemas.{Branch, Keyword, Schema}
+use Rattle.neldrafi_schema.specs.Schemas.{Branch, Keyword, Header, Schema}
 
 -- an instance has errors by a schema or none, wherever it is
 abbrev pub IsVerdict : Below → Data → ℕ → Bool → Type 0
@@ -23,6 +23,15 @@ pub record AreTwo (bs : List Branch) (number : ℕ) : Type 0 where
   pub are : bs ≡ first ∷ test ∷ []
   pub is : test.schema ≡ number
 
+-- there is one schema, the condition
+abbrev pub IsOnly : List Branch → ℕ → Type 0
+IsOnly bs number = (test : Branch) × (bs ≡ test ∷ []) × (test.schema ≡ number)
+
+abbrev pub ChoosesAlone : List Branch → ℕ → Choice → Type 0
+ChoosesAlone bs number Unknown = Unit {0}
+ChoosesAlone bs number Passes = IsOnly bs number
+ChoosesAlone bs number (Leads n) = ⊥
+
 abbrev pub Chooses : List Branch → ℕ → Bool → Choice → Type 0
 Chooses bs number counts Unknown = Unit {0}
 Chooses bs number counts Passes = AreTwo bs number × (counts ≡ false)
@@ -30,13 +39,13 @@ Chooses bs number counts (Leads n) =
     (two : AreTwo bs number) × (two.first.schema ≡ n) × (counts ≡ true)
 
 -- it reports nothing, or just where the schema does
-abbrev pub Means : List Schema → Below → Lists → List ℕ → List Keyword → Keyword → Data → Site → Choice
+abbrev pub Means : List Schema → Below → Lists → Header → List Keyword → Keyword → Data → Site → Choice
     → Type 0
-Means schemas below lists location beside k d site Unknown = Unit {0}
-Means schemas below lists location beside k d site Passes =
-    KeywordReports schemas below lists location beside k d site []
-Means schemas below lists location beside k d site (Leads n) = (b : Bool) → IsVerdict below d n b
-    → IsTrue b ↔ KeywordReports schemas below lists location beside k d site []
+Means schemas below lists header beside k d site Unknown = Unit {0}
+Means schemas below lists header beside k d site Passes =
+    KeywordReports schemas below lists header beside k d site []
+Means schemas below lists header beside k d site (Leads n) = (b : Bool) → IsVerdict below d n b
+    → IsTrue b ↔ KeywordReports schemas below lists header beside k d site []
 
 abbrev pub Ends : (ℕ → Bool) → Choice → Type 0
 Ends end (Leads n) = end n ≡ true

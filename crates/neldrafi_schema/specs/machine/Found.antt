@@ -43,20 +43,24 @@ failure_of f = record {
   schema_path = f.schema_path;
   evaluation_path = f.evaluation_path;
   instance_path = f.instance_path;
+  absolute = string_bytes f.absolute;
 }
 
 abbrev pub error_seen : ValidationError → Error
-error_seen (Text e) = of_text e
+error_seen (Text e) = of_text (string_bytes e.absolute) e.error
 error_seen (Failed f) = found (failure_of f)
 
 abbrev pub errors_of : List ValidationError → List Error
 errors_of es = map error_seen es
 
--- new is old, and behind it errors that are these
-pub record Appended (these : List Error → Type 0) (old new : List ValidationError) : Type 0 where
-  pub more : List ValidationError
+-- new is old, and behind it what is seen as these
+pub record Grows {V A : Type 0} (seen : V → A) (these : List A → Type 0) (old new : List V) : Type 0 where
+  pub more : List V
   pub longer : new ≡ old ++ more
-  pub said : these (errors_of more)
+  pub said : these (map seen more)
+
+abbrev pub Appended : (List Error → Type 0) → List ValidationError → List ValidationError → Type 0
+Appended = Grows error_seen
 
 -- what `validate` answers: that there are no errors, or the first of them, or that it is out of
 -- memory

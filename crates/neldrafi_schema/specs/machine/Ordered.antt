@@ -27,4 +27,4 @@ IsRuleInOrder other bs = Unit {0}
 
 abbrev pub IsInOrder : {E : Type 0} → Keyword E → Type 0
 IsInOrder (keyword.Rule r) = IsRuleInOrder r.rule r.branches.items
-IsInOrder (keyword.Text v) = Unit {0}
+IsInOrder (keyword.Text k v) = Unit {0}

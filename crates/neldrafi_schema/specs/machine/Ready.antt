@@ -42,7 +42,7 @@ module _ {E : Type 0} (outcome : E → List ℕ → Outcome) (MayCall : Validato
   -- the schemas to which it leads are there, and string keywords may be called
   abbrev pub IsKeywordReady : Keyword E → Type 0
   IsKeywordReady (Rule_ r) = IsRuledReady r
-  IsKeywordReady (Text v) = MayCall v
+  IsKeywordReady (Text k v) = MayCall v
 
   abbrev pub IsBodyReady : Body E → Type 0
   IsBodyReady Always = Unit {0}

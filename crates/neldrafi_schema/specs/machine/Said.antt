@@ -10,6 +10,7 @@ use Rattle.strkw_report.specs.declared.refusal.CompileErrorKind.TheVariants.{Mem
 use Rattle.strkw_keywords.specs.declared.keyword.Keyword.{Keyword as TextKeyword}
 use Rattle.strkw_keywords.specs.declared.keyword.Keyword.TheVariants as text
 use Rattle.strkw_keywords.specs.declared.validator.Validator.{Validator}
+use Rattle.strkw_keywords.specs.Keywords.{keyword_name}
 use Rattle.strkw_keywords.specs.Validators.{assertions_of, demands_of}
 use Rattle.strkw_pattern.specs.declared.engine.Outcome.{Outcome}
 use Rattle.strkw_keywords.specs.Meanings.{Lists}
@@ -75,10 +76,11 @@ module _ {E : Type 0} (outcome : E → List ℕ → Outcome) where
   IsSenseReady lists other = Unit {0}
 
   -- what a string keyword comes to, which stands there
-  abbrev pub read_keywords : Path → Option (Result (Validator E) CompileError) → List Keyword
-  read_keywords at None = []
-  read_keywords at (Some (Ok v)) = string_keyword (assertions_of outcome v) ∷ []
-  read_keywords at (Some (Err e)) = malformed at (by_string_keyword (text_reason_of e.kind)) ∷ []
+  abbrev pub read_keywords : Path → TextKeyword → Option (Result (Validator E) CompileError) → List Keyword
+  read_keywords at k None = []
+  read_keywords at k (Some (Ok v)) =
+      string_keyword (keyword_name k) (assertions_of outcome v) ∷ []
+  read_keywords at k (Some (Err e)) = malformed at (by_string_keyword (text_reason_of e.kind)) ∷ []
 
   abbrev pub IsReadReady : Lists → TextKeyword → Option (Result (Validator E) CompileError) → Type 0
   IsReadReady lists k (Some (Ok v)) = RestsOn outcome lists v

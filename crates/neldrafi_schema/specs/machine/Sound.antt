@@ -8,7 +8,7 @@ use Rattle.neldrafi_schema.specs.Refusals.{ends}
 -- what is said of a list of schemas: every keyword has a meaning, and leads to schemas of the list
 abbrev pub IsSoundKeyword : ℕ → Keyword → Type 0
 IsSoundKeyword count (rule name r bs) = AllByRecursion (λ b. b.schema < count) bs
-IsSoundKeyword count (string_keyword asserted) = Unit {0}
+IsSoundKeyword count (string_keyword name asserted) = Unit {0}
 IsSoundKeyword count (malformed path why) = ⊥
 
 abbrev pub IsSoundBody : ℕ → Body → Type 0

@@ -1,7 +1,10 @@
 //! Booleans, `type`, `required`, `properties`, `not` and references.
 
-use super::answers::{Row, are_answered};
+use super::answers::{Row, are_answered, json};
+use neldrafi_schema::{Config, Schema};
+use std::alloc::AllocError;
 use std::test::Fail;
+use strkw_pattern::NoPatterns;
 
 const ROWS: &[Row] = &[
     ("true", "5", &[]),
@@ -78,9 +81,60 @@ const ROWS: &[Row] = &[
         "[]",
         &["False schema does not allow [] at '' by '/$defs/b' ('/$ref/$ref')"],
     ),
+    (r#"{"required":["a"]}"#, r#"{"a":null}"#, &[]),
+    // keywords of one type say nothing of values of another
+    (
+        r#"{"minLength":2,"maxLength":0,"pattern":"^b","minItems":2,"maxItems":0,"uniqueItems":true,"items":false,"prefixItems":[false],"contains":false,"unevaluatedItems":false,"minProperties":2,"maxProperties":0,"required":["b"],"dependentRequired":{"a":["b"]},"dependentSchemas":{"a":false},"properties":{"a":false},"patternProperties":{"^a":false},"additionalProperties":false,"propertyNames":false,"unevaluatedProperties":false}"#,
+        "5",
+        &[],
+    ),
+    (
+        r#"{"minimum":6,"exclusiveMinimum":6,"maximum":4,"exclusiveMaximum":4,"multipleOf":2,"minItems":2,"maxItems":0,"uniqueItems":true,"items":false,"prefixItems":[false],"contains":false,"unevaluatedItems":false,"minProperties":2,"maxProperties":0,"required":["b"],"dependentRequired":{"a":["b"]},"dependentSchemas":{"a":false},"properties":{"a":false},"patternProperties":{"^a":false},"additionalProperties":false,"propertyNames":false,"unevaluatedProperties":false}"#,
+        r#""a""#,
+        &[],
+    ),
+    (
+        r#"{"minimum":6,"exclusiveMinimum":6,"maximum":4,"exclusiveMaximum":4,"multipleOf":2,"minLength":2,"maxLength":0,"pattern":"^b","minProperties":2,"maxProperties":0,"required":["b"],"dependentRequired":{"0":["b"]},"dependentSchemas":{"0":false},"properties":{"0":false},"patternProperties":{"^0":false},"additionalProperties":false,"propertyNames":false,"unevaluatedProperties":false}"#,
+        "[1]",
+        &[],
+    ),
+    (
+        r#"{"minimum":6,"exclusiveMinimum":6,"maximum":4,"exclusiveMaximum":4,"multipleOf":2,"minLength":2,"maxLength":0,"pattern":"^b","minItems":2,"maxItems":0,"uniqueItems":true,"items":false,"prefixItems":[false],"contains":false,"unevaluatedItems":false}"#,
+        r#"{"0":1}"#,
+        &[],
+    ),
+    // a schema that refers to itself, by each keyword that enters the instance
+    (
+        r##"{"type":["array","object","string"],"items":{"$ref":"#"},"prefixItems":[{"$ref":"#"}],"contains":{"$ref":"#"},"unevaluatedItems":{"$ref":"#"},"properties":{"a":{"$ref":"#"}},"patternProperties":{"^b":{"$ref":"#"}},"additionalProperties":{"$ref":"#"},"unevaluatedProperties":{"$ref":"#"},"propertyNames":{"$ref":"#"},"maxLength":2,"$defs":{"d":{"$ref":"#"}}}"##,
+        r#"[[""],{"a":"","b":{},"ccc":{}},["",[5]]]"#,
+        &[
+            r#""ccc" is longer than 2 characters at '/1' by '/maxLength' ('/items/$ref/propertyNames/$ref/maxLength')"#,
+            "None of [5] are valid under the given schema at '/2/1' by '/contains' ('/items/$ref/items/$ref/contains')",
+            r#"5 is not of types "array", "object", "string" at '/2/1/0' by '/type' ('/items/$ref/items/$ref/prefixItems/0/$ref/type')"#,
+        ],
+    ),
 ];
 
 #[test]
 fn errors_under_refusal(rt: HostRuntime) -> Result<(), Fail> {
     are_answered(rt.alloc(), ROWS)
+}
+
+// The errors of a second instance are appended to those of the first, or none of them if out of memory.
+#[test]
+fn errors_of_two_instances_under_refusal(rt: HostRuntime) -> Result<(), Fail> {
+    let alloc = rt.alloc();
+    let document = json(alloc, r#"{"required":["a","b"]}"#)?;
+    let instance = json(alloc, "{}")?;
+    let Ok(schema) = Schema::compile(alloc, &document, &Config::new(&NoPatterns)) else {
+        return Err(Fail::from(AllocError));
+    };
+    let mut errors = Vec::new(alloc);
+    schema.collect_errors(alloc, &instance, &mut errors)?;
+    let second = schema.collect_errors(alloc, &instance, &mut errors);
+    let expected = if second.is_ok() { 4 } else { 2 };
+    if errors.len() != expected {
+        return Err(Fail::new("the number of errors"));
+    }
+    Ok(second?)
 }

@@ -83,6 +83,24 @@ const ROWS: &[Row] = &[
         "5",
         &[],
     ),
+    (
+        r#"{"oneOf":[true,true,true]}"#,
+        "5",
+        &[
+            "5 is valid under more than one of the schemas listed in the 'oneOf' keyword at '' by '/oneOf' ('/oneOf')",
+        ],
+    ),
+    (
+        r#"{"if":false,"then":false,"else":{"type":"null"}}"#,
+        "5",
+        &[r#"5 is not of type "null" at '' by '/else/type' ('/else/type')"#],
+    ),
+    (r#"{"if":true,"else":false}"#, "5", &[]),
+    (
+        r#"{"if":false,"then":false,"else":{"type":"integer"}}"#,
+        "5",
+        &[],
+    ),
 ];
 
 #[test]

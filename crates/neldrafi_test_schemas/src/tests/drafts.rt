@@ -99,6 +99,11 @@ const ROWS: &[Row] = &[
         "9007199254740992.0",
         &["9007199254740993 was expected at '' by '/const' ('/const')"],
     ),
+    (
+        r#"{"$schema":"http://json-schema.org/draft-04/schema#","type":"number"}"#,
+        "1.5",
+        &[],
+    ),
 ];
 
 #[test]

@@ -98,6 +98,23 @@ const ROWS: &[Row] = &[
         "5",
         &[],
     ),
+    // the outermost of two in the scope, of which the inner one has another name, too
+    (
+        r##"{"$ref":"b","$defs":{"b":{"$id":"b","$ref":"c","$defs":{"x":{"$dynamicAnchor":"x","type":"null"}}},"c":{"$id":"c","allOf":[{"$dynamicRef":"#x"},{"$dynamicRef":"#y"}],"$defs":{"x":{"$dynamicAnchor":"x","type":"string"},"y":{"$dynamicAnchor":"y","type":"boolean"}}}}}"##,
+        "5",
+        &[
+            r#"5 is not of type "null" at '' by '/$defs/b/$defs/x/type' ('/$ref/$ref/allOf/0/$dynamicRef/type')"#,
+            r#"5 is not of type "boolean" at '' by '/$defs/c/$defs/y/type' ('/$ref/$ref/allOf/1/$dynamicRef/type')"#,
+        ],
+    ),
+    // no resource is dynamic by itself
+    (
+        r##"{"type":["array","object"],"properties":{"p":{"$id":"a","type":["null","object"],"properties":{"p":{"$dynamicRef":"#"}}}}}"##,
+        r#"{"p":{"p":5}}"#,
+        &[
+            r#"5 is not of types "null", "object" at '/p/p' by '/properties/p/type' ('/properties/p/properties/p/$dynamicRef/type')"#,
+        ],
+    ),
 ];
 
 // Draft 2019-09 (Core, section 8.2.4.2).
@@ -149,6 +166,14 @@ const RECURSIVE: &[Row] = &[
         r#"{"p":{"p":{"p":5}}}"#,
         &[
             r#"5 is not of types "array", "object" at '/p/p/p' by '/type' ('/properties/p/properties/p/properties/p/$recursiveRef/type')"#,
+        ],
+    ),
+    // nor by an empty fragment of its `$id`
+    (
+        r##"{"$schema":"https://json-schema.org/draft/2019-09/schema","$id":"b#","type":["array","object"],"properties":{"p":{"$id":"a","$recursiveAnchor":true,"type":["null","object"],"properties":{"p":{"$recursiveRef":"#"}}}}}"##,
+        r#"{"p":{"p":5}}"#,
+        &[
+            r#"5 is not of types "null", "object" at '/p/p' by '/properties/p/type' ('/properties/p/properties/p/$recursiveRef/type')"#,
         ],
     ),
 ];

@@ -96,6 +96,25 @@ const ROWS: &[Row] = &[
         "5",
         &[r#"5 is not of type "null" at '' by '/$defs/a/type' ('/$ref/type')"#],
     ),
+    // keys with `~` and `/`, empty ones, digits and `__proto__` (RFC 6901, sections 4 and 5)
+    (
+        r##"{"allOf":[{"$ref":"#/$defs/~01~10"},{"$ref":"#/$defs/"},{"$ref":"#/$defs/0"},{"$ref":"#/$defs/a%2525"},{"$ref":"#/$defs/__proto__/allOf/0"},{"$ref":"#/"}],"$defs":{"~1/0":{"type":"null"},"":{"type":"string"},"0":{"type":"array"},"a%25":{"type":"object"},"__proto__":{"allOf":[{"type":"boolean"}]}},"":false}"##,
+        "5",
+        &[
+            r#"5 is not of type "null" at '' by '/$defs/~01~10/type' ('/allOf/0/$ref/type')"#,
+            r#"5 is not of type "string" at '' by '/$defs//type' ('/allOf/1/$ref/type')"#,
+            r#"5 is not of type "array" at '' by '/$defs/0/type' ('/allOf/2/$ref/type')"#,
+            r#"5 is not of type "object" at '' by '/$defs/a%25/type' ('/allOf/3/$ref/type')"#,
+            r#"5 is not of type "boolean" at '' by '/$defs/__proto__/allOf/0/type' ('/allOf/4/$ref/type')"#,
+            "False schema does not allow 5 at '' by '/' ('/allOf/5/$ref')",
+        ],
+    ),
+    // into `enum`
+    (
+        r##"{"$ref":"#/enum/1","enum":[5,{"type":"null"}]}"##,
+        "5",
+        &[r#"5 is not of type "null" at '' by '/enum/1/type' ('/$ref/type')"#],
+    ),
 ];
 
 // What identifies schemas.

@@ -304,6 +304,69 @@ const REFUSALS: &[Refusal] = &[
         "/unevaluatedProperties",
     ),
     (r##"{"if":{"$ref":"#"}}"##, "CircularReference", "/if/$ref"),
+    (r#"{"type":["string","text"]}"#, "WrongType", "/type"),
+    (r#"{"minItems":-1.0}"#, "WrongType", "/minItems"),
+    (r#"{"multipleOf":1e-400}"#, "WrongType", "/multipleOf"),
+    (r#"{"multipleOf":-2}"#, "WrongType", "/multipleOf"),
+    (r#"{"allOf":[]}"#, "WrongType", "/allOf"),
+    (r#"{"oneOf":[]}"#, "WrongType", "/oneOf"),
+    (
+        r#"{"patternProperties":{"a+":{},"b+":{},"c":{}}}"#,
+        "Text",
+        "/patternProperties/a+",
+    ),
+    // pointers to no item
+    (
+        r##"{"$ref":"#/a/+0","a":[{}]}"##,
+        "UnresolvedReference",
+        "/$ref",
+    ),
+    (
+        r##"{"$ref":"#/a/-","a":[{}]}"##,
+        "UnresolvedReference",
+        "/$ref",
+    ),
+    (
+        r##"{"$ref":"#/a/","a":[{}]}"##,
+        "UnresolvedReference",
+        "/$ref",
+    ),
+    (
+        r##"{"$ref":"#/a/18446744073709551616","a":[{}]}"##,
+        "UnresolvedReference",
+        "/$ref",
+    ),
+    // references that lead back, by each keyword that does not enter the instance, and by three references
+    (
+        r##"{"dependentSchemas":{"a":{"$ref":"#"}}}"##,
+        "CircularReference",
+        "/dependentSchemas/a/$ref",
+    ),
+    (
+        r##"{"anyOf":[true,{"$ref":"#"}]}"##,
+        "CircularReference",
+        "/anyOf/1/$ref",
+    ),
+    (
+        r##"{"oneOf":[{"$ref":"#"}]}"##,
+        "CircularReference",
+        "/oneOf/0/$ref",
+    ),
+    (
+        r##"{"if":true,"then":{"$ref":"#"}}"##,
+        "CircularReference",
+        "/then/$ref",
+    ),
+    (
+        r##"{"if":true,"else":{"$ref":"#"}}"##,
+        "CircularReference",
+        "/else/$ref",
+    ),
+    (
+        r##"{"$defs":{"a":{"$ref":"#/$defs/b"},"b":{"not":{"$ref":"#/$defs/c"}},"c":{"allOf":[{"$ref":"#/$defs/a"}]}}}"##,
+        "CircularReference",
+        "/$defs/a/$ref",
+    ),
 ];
 
 /// Why a document is refused, and where.
@@ -378,6 +441,24 @@ const EXPLANATIONS: &[(&str, &str)] = &[
         r#"at #/pattern: 5 is not of type "string""#,
     ),
 ];
+
+// The place of a refusal is not told if it is out of memory.
+#[test]
+fn out_of_memory(rt: HostRuntime) -> Result<(), Fail> {
+    let refusal = refusal_of(rt.alloc(), &Config::new(&NoPatterns), r#"{"type":5}"#)?;
+    let text = match refusal {
+        Some(mut error) => {
+            error.kind = SchemaErrorKind::Memory;
+            error.text(rt.alloc())?
+        }
+        None => String::new(rt.alloc()),
+    };
+    if text.as_str() == "out of memory" {
+        Ok(())
+    } else {
+        Err(Fail::new(text.as_str()))
+    }
+}
 
 #[test]
 fn explanations_under_refusal(rt: HostRuntime) -> Result<(), Fail> {

@@ -16,6 +16,19 @@ const VALUES: &[(&str, &[JsonType])] = &[
     (r#""1""#, &[JsonType::String]),
     ("[null]", &[JsonType::Array]),
     (r#"{"a":1}"#, &[JsonType::Object]),
+    ("-0.0", &[JsonType::Integer, JsonType::Number]),
+    ("9007199254740993", &[JsonType::Integer, JsonType::Number]),
+    (
+        "18446744073709551616",
+        &[JsonType::Integer, JsonType::Number],
+    ),
+    (
+        "1.7976931348623157e308",
+        &[JsonType::Integer, JsonType::Number],
+    ),
+    ("5e-324", &[JsonType::Number]),
+    // which the reader takes for 0
+    ("1e-400", &[JsonType::Integer, JsonType::Number]),
 ];
 
 const TYPES: &[JsonType] = &[

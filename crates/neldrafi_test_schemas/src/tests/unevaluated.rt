@@ -98,6 +98,33 @@ const ROWS: &[Row] = &[
         "[1]",
         &[],
     ),
+    // below `not` nothing counts, and what is evaluated of a key is not so of the instance
+    (
+        r#"{"not":{"properties":{"a":true}},"unevaluatedProperties":false}"#,
+        r#"{"a":1}"#,
+        &[
+            r#"{"properties":{"a":true}} is not allowed for {"a":1} at '' by '/not' ('/not')"#,
+            "Unevaluated properties are not allowed ('a' was unexpected) at '' by '/unevaluatedProperties' ('/unevaluatedProperties')",
+        ],
+    ),
+    (
+        r#"{"propertyNames":{"properties":{"a":true}},"unevaluatedProperties":false}"#,
+        r#"{"a":1}"#,
+        &[
+            "Unevaluated properties are not allowed ('a' was unexpected) at '' by '/unevaluatedProperties' ('/unevaluatedProperties')",
+        ],
+    ),
+    // in draft 2019-09
+    (
+        r#"{"$schema":"https://json-schema.org/draft/2019-09/schema","additionalProperties":true,"unevaluatedProperties":false}"#,
+        r#"{"a":1}"#,
+        &[],
+    ),
+    (
+        r#"{"$schema":"https://json-schema.org/draft/2019-09/schema","if":{"properties":{"a":true}},"unevaluatedProperties":false}"#,
+        r#"{"a":1}"#,
+        &[],
+    ),
 ];
 
 #[test]

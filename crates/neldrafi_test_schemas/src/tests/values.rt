@@ -113,6 +113,18 @@ const ROWS: &[Row] = &[
         "5",
         &["5 is greater than or equal to the maximum of 5 at '' by '/maximum' ('/maximum')"],
     ),
+    (r#"{"const":null}"#, "null", &[]),
+    (
+        r#"{"const":null}"#,
+        "false",
+        &["null was expected at '' by '/const' ('/const')"],
+    ),
+    (r#"{"enum":[0,"true",true]}"#, "true", &[]),
+    (
+        r#"{"enum":[0,"true",true]}"#,
+        "false",
+        &[r#"false is not one of 0, "true" or true at '' by '/enum' ('/enum')"#],
+    ),
 ];
 
 #[test]

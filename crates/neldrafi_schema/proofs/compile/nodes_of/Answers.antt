@@ -1,4 +1,5 @@
 use Rattle.std.proofs.Common.{rules, ◌≡◌, ◌∙◌, ◌≤◌, ℕ, ap, arith, length, subst, sym, Some}
+use Rattle.std.proofs.Math.Path.{ap₂}
 use Rattle.std.specs.Prelude.{slice_get}
 use Rattle.serde_json.specs.View.{view}
 use Rattle.strkw_keywords.specs.Object.{Settings}
@@ -6,7 +7,8 @@ use Rattle.strkw_report.specs.declared.draft.Draft.{Draft}
 use Rattle.neldrafi_schema.specs.Documents.{Documents}
 use Rattle.neldrafi_schema.specs.Scopes.{Scope, entered}
 use Rattle.neldrafi_schema.specs.Drafts.{draft_of}
-use Rattle.neldrafi_schema.specs.Paths.{Path, location_of}
+use Rattle.neldrafi_schema.specs.Headers.{header_at}
+use Rattle.neldrafi_schema.specs.Paths.{Path}
 use Rattle.neldrafi_schema.specs.Reading.{BodySays}
 use Rattle.neldrafi_schema.specs.Refusals.{ends, schemas_endless}
 use Rattle.neldrafi_schema.specs.Settings.{config_settings}
@@ -70,8 +72,11 @@ loop-number-preserved g c =
     (subst (λ scope. ReadsAt library.draft documents scope (place_path place.place)) scope
     (subst (ReadsAt library.draft documents (scope_of c.deref-in-loop-number-4.result.now)) path
     (subst (λ ds. ReadsAt library.draft ds (scope_of c.deref-in-loop-number-4.result.now) (path_of c.deref-in-loop-number-5.result.now)) read.whole c.in_ok-node.ensures.read))) in
+    let headed =
+    c.in_ok-node.ensures.header ∙ ap (header_at library.draft (documents_of c.loop-number.places.documents)) path
+    ∙ ap₂ (λ draft ds. header_at draft ds (place_path place.place)) draft read.whole in
     one_more outcome s documents c.loop-number.places c.read_schema.new.places c.loop-number.nodes.items c.push.new.self.items c.loop-number.first c.read_schema.new.first c.loop-number.number
-    place c.in_ok-node.node read at c.in_ok-node.ensures.grown reads (c.in_ok-node.ensures.location ∙ ap location_of path) c.in_ok-push.ensures.items
+    place c.in_ok-node.node read at c.in_ok-node.ensures.grown reads headed c.in_ok-push.ensures.items
 
 pub returns-in-Some-first-clause-refused : goal.returns-in-Some-first-clause-refused
 returns-in-Some-first-clause-refused g c =

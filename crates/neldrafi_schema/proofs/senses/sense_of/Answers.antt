@@ -62,7 +62,7 @@ returns-in-Contains-clause-sense g c = λ outcome.
 pub returns-in-If-clause-sense : goal.returns-in-If-clause-sense
 returns-in-If-clause-sense g c = λ outcome.
     let is : c.args.known ≡ known.If = c.in-If.is in
-    rw is (rw (c.if_rule.ensures outcome) at (c.one_sense-in-If.ensures.sense outcome))
+    rw is (c.one_sense-in-If.ensures.sense outcome)
 
 pub returns-in-Unevaluated-clause-sense : goal.returns-in-Unevaluated-clause-sense
 returns-in-Unevaluated-clause-sense g c = λ outcome.
@@ -87,7 +87,7 @@ returns-in-AdditionalItems-clause-sense g c = λ outcome.
 pub returns-in_default-clause-sense : goal.returns-in_default-clause-sense
 returns-in_default-clause-sense g c = λ outcome.
     c.assertion_sense.ensures.sense outcome (path_of c.args.member.now.path.now) (path_of c.args.member.now.at.now)
-    (assertion_left c.args.known c.in_default.not-Dialect c.in_default.not-Draft4Identifier c.in_default.not-Identifier c.in_default.not-Anchor c.in_default.not-DynamicAnchor c.in_default.not-RecursiveAnchor c.in_default.not-DynamicReference c.in_default.not-RecursiveReference c.in_default.not-AllOf c.in_default.not-AnyOf c.in_default.not-OneOf c.in_default.not-Properties c.in_default.not-Definitions c.in_default.not-Defs c.in_default.not-Dependencies c.in_default.not-PropertyNames c.in_default.not-Contains c.in_default.not-DependentSchemas c.in_default.not-PrefixItems c.in_default.not-Unevaluated c.in_default.not-If c.in_default.not-Not c.in_default.not-Then c.in_default.not-Else c.in_default.not-AdditionalProperties c.in_default.not-Items c.in_default.not-AdditionalItems c.in_default.not-PatternProperties c.in_default.not-Reference c.in_default.not-Text c.in_default.not-Unknown)
+    (assertion_left c.args.known c.in_default.not-Dialect c.in_default.not-Draft4Identifier c.in_default.not-Identifier c.in_default.not-Anchor c.in_default.not-DynamicAnchor c.in_default.not-RecursiveAnchor c.in_default.not-DynamicReference c.in_default.not-RecursiveReference c.in_default.not-AllOf c.in_default.not-AnyOf c.in_default.not-OneOf c.in_default.not-Properties c.in_default.not-Definitions c.in_default.not-Defs c.in_default.not-Dependencies c.in_default.not-PropertyNames c.in_default.not-ContentSchema c.in_default.not-Contains c.in_default.not-DependentSchemas c.in_default.not-PrefixItems c.in_default.not-Unevaluated c.in_default.not-If c.in_default.not-Not c.in_default.not-Then c.in_default.not-Else c.in_default.not-AdditionalProperties c.in_default.not-Items c.in_default.not-AdditionalItems c.in_default.not-PatternProperties c.in_default.not-Reference c.in_default.not-Text c.in_default.not-Unknown)
 
 pub returns-in_default-clause-leads : goal.returns-in_default-clause-leads
 returns-in_default-clause-leads g c = λ documents there. c.assertion_sense.ensures.leads documents

@@ -1,13 +1,14 @@
-use Rattle.std.proofs.Common.{rules, ◌∙◌, ◌≤◌, ◌-◌, le_refl, length, arith, ap, map, sym, subst, string_bytes}
+use Rattle.std.proofs.Common.{rules, ◌∙◌, ◌≤◌, ◌-◌, get_or, le_refl, length, arith, ap, map, sym, subst, string_bytes}
 use borrow.Author.Rules.{scaled_fits≤}
 use Rattle.std.proofs.lemmas.Result.{on_ok_weaker}
 use Rattle.serde_json.specs.View.{view}
+use Rattle.strkw_keywords.specs.Errors.{NodeReports}
 use Rattle.strkw_keywords.specs.Validators.{assertions_of}
 use Rattle.neldrafi_schema.specs.Errors.{of_text}
-use Rattle.neldrafi_schema.specs.Meaning.{TextReports, error_of}
+use Rattle.neldrafi_schema.specs.Meaning.{absolute_below, error_of}
 use Rattle.neldrafi_schema.specs.Refusals.{is_in_place}
 use Rattle.neldrafi_schema.specs.machine.Closures.{MayFind, MayTest}
-use Rattle.neldrafi_schema.specs.machine.Compiled.{branches_of, keywords_of, rule_of, ruled_of, schemas_of, targets_of}
+use Rattle.neldrafi_schema.specs.machine.Compiled.{header_of, branches_of, keywords_of, rule_of, ruled_of, schemas_of, targets_of}
 use Rattle.neldrafi_schema.specs.machine.Found.{kinds_of}
 use Rattle.neldrafi_schema.specs.machine.Left.{AreFindings}
 use Rattle.neldrafi_schema.specs.machine.Ready.{IsRuledReady, steps_for}
@@ -70,7 +71,7 @@ pub push_errors-loop-keyword-preserved : goal.push_errors-loop-keyword-preserved
 push_errors-loop-keyword-preserved g t c = λ lists tests finds k h.
     let outcome = g.E.RegexEngine.outcome in
     let nodes = c.args.self.now.checker.nodes.now in
-    keyword_appends outcome (schemas_of outcome nodes) (Within outcome nodes lists k) lists _ (view c.args.visit.now.instance.now) c.args.visit.now.site.now c.deref-keyword-items.result.now c.deref.result.now
+    keyword_appends outcome (schemas_of outcome nodes) (Within outcome nodes lists k) lists (header_of (get_or nodes c.args.number c.index-self-number.result).header) (view c.args.visit.now.instance.now) c.args.visit.now.site.now c.deref-keyword-items.result.now c.deref.result.now
     c.loop-keyword.keyword-index c.keyword-item.result c.loop-keyword-test.true c.keyword-item.is (c.deref.ensures.value ∙ sym c.deref-keyword-items.ensures.value)
     c.args.errors.now.items c.loop-keyword.errors.items c.push_keyword.new.errors.items
     (c.loop-keyword.invariant lists tests finds k h) (c.in_ok-push_keyword-in-Keywords.ensures lists tests finds k h)
@@ -115,11 +116,15 @@ push_keyword-push_rule-requires g t c κs within =
 pub push_keyword-returns-in-Rule : goal.push_keyword-returns-in-Rule
 push_keyword-returns-in-Rule g t c = λ lists tests finds k h. rw c.in-Rule.is (c.push_rule.ensures lists tests finds k h)
 
-pub push_keyword-returns-in_ok-text_errors-in-Text : goal.push_keyword-returns-in_ok-text_errors-in-Text
-push_keyword-returns-in_ok-text_errors-in-Text g t c = λ lists tests finds k h. on_ok_weaker c.push_texts.result
-    (appended_alike _ _ c.args.errors.now.items c.push_texts.new.errors.items (λ es r. rw (c.in-Text.is, r)
-    (subst (λ o. TextReports lists (assertions_of g.E.RegexEngine.outcome c.in-Text.validator) o c.args.visit.now.site.now (map of_text c.in_ok-text_errors-in-Text.field-0.items)) c.as_str-text.ensures
-    (finds _ _ _ _ c.in_ok-text_errors-in-Text.ensures))))
+pub push_keyword-returns-in_ok-found-in-Text : goal.push_keyword-returns-in_ok-found-in-Text
+push_keyword-returns-in_ok-found-in-Text g t c = λ lists tests finds k h.
+    let found = c.in_ok-found-in-Text.found.items in
+    on_ok_weaker c.push_texts.result
+    (appended_alike _ _ c.args.errors.now.items c.push_texts.new.errors.items (λ es r. rw c.in-Text.is (
+      found,
+      subst (λ o. NodeReports (assertions_of g.E.RegexEngine.outcome c.in-Text.validator) lists c.args.visit.now.site.now o found) c.as_str.ensures (finds _ _ _ _ c.in_ok-found-in-Text.ensures),
+      r ∙ ap (λ w. map (of_text (absolute_below (string_bytes c.args.node.now.header.absolute) w)) found) c.as_str-in-Text.ensures,
+    )))
     c.push_texts.ensures
 
 pub push_rule-findings-requires : goal.push_rule-findings-requires
@@ -146,14 +151,14 @@ push_rule-loop-target-init g t c = λ lists tests finds k h.
     let bs = branches_of ruled.branches.items in
     let beside = keywords_of outcome c.args.beside.now in
     let items = c.deref-target-items.result.now in
-    let location = c.args.node.now.location in
+    let header = header_of c.args.node.now.header in
     let kinds = kinds_of c.in_ok-kinds.kinds.items in
     let found : AreFindings (schemas_of outcome nodes) below beside (ruled_of outcome ruled) d site kinds (targets_of items) =
     subst (λ ts. AreFindings (schemas_of outcome nodes) below beside (ruled_of outcome ruled) d site kinds (targets_of ts)) (sym c.deref-target-items.ensures.value)
     (c.in_ok-kinds.ensures lists tests k site h) in
-    kinds_first (schemas_of outcome nodes) below lists location beside word r bs d site items kinds c.args.errors.now.items c.push_kinds.new.errors.items found
+    kinds_first (schemas_of outcome nodes) below lists header beside word r bs d site items kinds c.args.errors.now.items c.push_kinds.new.errors.items found
     (appended_alike _ _ c.args.errors.now.items c.push_kinds.new.errors.items (λ es e. e
-    ∙ ap (λ w. map (error_of location site w d) kinds) c.as_str.ensures.value) c.in_ok-push_kinds.ensures)
+    ∙ ap (λ w. map (error_of header site w d) kinds) c.as_str.ensures.value) c.in_ok-push_kinds.ensures)
 
 pub push_rule-loop-target-preserved : goal.push_rule-loop-target-preserved
 push_rule-loop-target-preserved g t c = λ lists tests finds k h.
@@ -175,7 +180,7 @@ push_rule-loop-target-preserved g t c = λ lists tests finds k h.
     let next = next_found outcome nodes (MayTest g.T.Fn c.args.self.now.checker.text_accepts.now) c.requires.tests ruled d c.args.steps c.steps_below-left.result c.requires.this c.requires.end
     c.steps_below-left.ensures below beside site kinds items c.loop-target.target-index c.target-item.result found c.loop-target-test.true c.target-item.is in
     let fewer = next.1 in
-    target_appends (schemas_of outcome nodes) below lists c.args.node.now.location beside word r bs d site items c.loop-target.target-index c.target-item.result c.loop-target-test.true c.target-item.is
+    target_appends (schemas_of outcome nodes) below lists (header_of c.args.node.now.header) beside word r bs d site items c.loop-target.target-index c.target-item.result c.loop-target-test.true c.target-item.is
     c.args.errors.now.items c.loop-target.errors.items c.push_target.new.errors.items (c.loop-target.invariant lists tests finds k h)
     (c.in_ok-push_target.ensures lists tests finds k (omega (arith, fewer)))
 
@@ -217,7 +222,7 @@ push_rule-returns g t c = λ lists tests finds k h.
     let bs = branches_of ruled.branches.items in
     let beside = keywords_of outcome c.args.beside.now in
     let items = c.deref-target-items.result.now in
-    no_more_targets (schemas_of outcome nodes) below lists c.args.node.now.location beside word r bs d site items c.loop-target.target-index c.args.errors.now.items c.loop-target.errors.items
+    no_more_targets (schemas_of outcome nodes) below lists (header_of c.args.node.now.header) beside word r bs d site items c.loop-target.target-index c.args.errors.now.items c.loop-target.errors.items
     c.loop-target-test.false (c.loop-target.invariant lists tests finds k h)
 
 pub push_target-push_errors-requires : goal.push_target-push_errors-requires

@@ -7,6 +7,7 @@ use Rattle.neldrafi_schema.specs.machine.Closures.{Finds, Tests}
 use Rattle.neldrafi_schema.specs.machine.Compiled.{keywords_of, ruled_of, schemas_of, seen_data, targets_of}
 use Rattle.neldrafi_schema.specs.machine.Found.{Appended}
 use Rattle.neldrafi_schema.specs.machine.Ready.{steps_for}
+use Rattle.neldrafi_schema.specs.machine.Compiled.{header_of}
 use Rattle.neldrafi_schema.proofs.collecting.Collector.+push.Given as goal
 
 abbrev pub decreases-push_errors : goal.decreases-push_errors
@@ -28,9 +29,9 @@ invariant-push_errors-loop-keyword g l =
     (lists : Lists) → Tests g.T.Fn l.self.checker.text_accepts.now g.E.RegexEngine.outcome lists → Finds g.F.Fn l.self.text_errors.now g.E.RegexEngine.outcome lists
     → (k : ℕ) → steps_for (length l.self.checker.nodes.now) (view l.visit.instance.now) (l.steps - 1) ≤ k
     → Appended (λ es. (later : List Error)
-    → KeywordsReport (schemas_of g.E.RegexEngine.outcome l.self.checker.nodes.now) (Reports (schemas_of g.E.RegexEngine.outcome l.self.checker.nodes.now) lists k) lists l.node.location ks
+    → KeywordsReport (schemas_of g.E.RegexEngine.outcome l.self.checker.nodes.now) (Reports (schemas_of g.E.RegexEngine.outcome l.self.checker.nodes.now) lists k) lists (header_of l.node.header) ks
     (keywords_of g.E.RegexEngine.outcome (drop l.keyword-index l.keyword-items)) (view l.visit.instance.now) l.visit.site.now later
-    → KeywordsReport (schemas_of g.E.RegexEngine.outcome l.self.checker.nodes.now) (Reports (schemas_of g.E.RegexEngine.outcome l.self.checker.nodes.now) lists k) lists l.node.location ks ks (view l.visit.instance.now) l.visit.site.now (es ++ later))
+    → KeywordsReport (schemas_of g.E.RegexEngine.outcome l.self.checker.nodes.now) (Reports (schemas_of g.E.RegexEngine.outcome l.self.checker.nodes.now) lists k) lists (header_of l.node.header) ks ks (view l.visit.instance.now) l.visit.site.now (es ++ later))
     l.fn.errors.items l.errors.items
 
 -- the errors so far, and those of the targets that are left, are those of the rule
@@ -41,6 +42,6 @@ invariant-push_rule-loop-target g l =
     → Appended (λ es. (later : List Error)
     → EachReports (Reports (schemas_of g.E.RegexEngine.outcome l.self.checker.nodes.now) lists k) l.visit.site.now (string_bytes l.ruled.name)
     (targets_of (drop l.target-index l.target-items)) later
-    → KeywordReports (schemas_of g.E.RegexEngine.outcome l.self.checker.nodes.now) (Reports (schemas_of g.E.RegexEngine.outcome l.self.checker.nodes.now) lists k) lists l.node.location
+    → KeywordReports (schemas_of g.E.RegexEngine.outcome l.self.checker.nodes.now) (Reports (schemas_of g.E.RegexEngine.outcome l.self.checker.nodes.now) lists k) lists (header_of l.node.header)
     (keywords_of g.E.RegexEngine.outcome l.beside) (ruled_of g.E.RegexEngine.outcome l.ruled) (view l.visit.instance.now) l.visit.site.now (es ++ later))
     l.fn.errors.items l.errors.items

@@ -1,7 +1,5 @@
 use Rattle.std.proofs.Common.{rules, ◌≡◌, ◌∙◌, [], ap, arith, length, subst, sym}
 use Rattle.serde_json.specs.View.{view}
-use Rattle.strkw_report.specs.declared.error.Site.{Site}
-use Rattle.neldrafi_schema.specs.Meaning.{root_site}
 use Rattle.neldrafi_schema.specs.machine.Ready.{RestsOn}
 use Rattle.neldrafi_schema.proofs.Wholes.{ready_alike, whole_errors}
 use Rattle.neldrafi_schema.proofs.schema.Schema.errors.Goals as goal
@@ -25,10 +23,8 @@ push_errors-requires-clause-answers g c = (_, λ p x r answered. answered.1)
 
 pub returns : goal.returns
 returns g c =
-    let site : Site = record { evaluation = c.root.result; instance = c.root-2.result } in
-    let root : site ≡ root_site = search rules in
     let none : c.new-errors.result.items ≡ [] = search rules in
     whole_errors g.E.RegexEngine.outcome c.args.self.now.nodes.items c.deref.result.now c.deref.ensures.value c.len.result
     (c.len.ensures ∙ c.args.self.now.nodes.ok.0) _ (view c.args.instance.now)
-    site c.new-errors.result.items c.push_errors.new.errors.items root none
+    c.root_site-site.result c.new-errors.result.items c.push_errors.new.errors.items c.root_site-site.ensures none
     (c.in_ok-push_errors.ensures _ (λ p x r answered. answered.1) (λ p x at r answered. answered.1))

@@ -1,37 +1,48 @@
-use Rattle.std.proofs.Common.{rules, drop, ◌≡◌, ◌↔◌, ◌∙◌, ◌<◌, ◌≤◌, ◌-◌, le_refl, length, arith, None, Some, ap, sym, subst, refl, [], ◌++◌, append-nil, true, false, IsTrue, string_bytes}
+use Rattle.std.proofs.Common.{rules, drop, inl, inr, map, ℕ, List, ◌+◌, ◌∷◌, ◌≡◌, ◌↔◌, ◌∙◌, ◌<◌, ◌≤◌, ◌-◌, le_refl, length, arith, None, Some, ap, sym, subst, refl, [], append-nil, true, false, IsTrue, string_bytes}
 use borrow.Author.Rules.{scaled_fits≤}
-use Rattle.std.proofs.lemmas.List.{length-map, map-append}
+use Rattle.std.proofs.lemmas.Bool.{false≢true}
+use Rattle.std.proofs.lemmas.List.{length-map}
 use Rattle.std.proofs.lemmas.Result.{IfOk-weaker, on_ok_weaker}
-use Rattle.std.specs.List.{flat_map}
+use Rattle.std.specs.Iterator.Adapters.{zip_first, zip_second}
+use Rattle.std.specs.List.{AllByRecursion, filter, flat_map}
+use Rattle.std.specs.Slice.Iter.{iter_rest}
 use Rattle.std.specs.Prelude.{option_map}
 use Rattle.std.proofs.lemmas.Grind.{common_steps}
-use Rattle.serde_json.specs.Data.{depth}
-use Rattle.serde_json.specs.Find.{as_array}
-use Rattle.serde_json.specs.View.{items_view, view}
+use Rattle.serde_json.specs.Data.{depth, Data}
+use Rattle.serde_json.specs.Find.{as_array, as_object}
+use Rattle.serde_json.specs.View.{items_view, view, members_view}
+use Rattle.strkw_keywords.specs.Keywords.{keyword_name}
 use Rattle.strkw_keywords.specs.Validators.{assertions_of}
 use Rattle.neldrafi_schema.specs.Meaning.{AreLeft, AreVerdicts, BesideEvaluates, EachReports, Evaluates, KeywordEvaluates, Reports, TargetEvaluates, TextReports, root_site, site_of}
 use Rattle.neldrafi_schema.specs.Refusals.{ends, is_in_place}
-use Rattle.neldrafi_schema.specs.Rules.{applied, child_at, children, counts_nothing, kinds, left_kinds, on_child, on_each, on_items, part_of, path_of as path_to, placed_items, tested, valid_of}
+use Rattle.neldrafi_schema.specs.Rules.{applied, child_at, children, counts_nothing, kinds, left_kinds, on_child, on_each, on_items, part_of, path_of as path_to, placed_items, reached, tested, is_matched, is_present, member_list, members_in, missing_beside, on_itself, on_matched, on_members, other_members_in}
 use Rattle.neldrafi_schema.specs.Schemas.{rule}
+use Rattle.neldrafi_schema.specs.machine.Chosen.{chosen_members, is_chosen}
 use Rattle.neldrafi_schema.specs.machine.Closures.{MayTest}
-use Rattle.neldrafi_schema.specs.machine.Compiled.{branch_of, branches_of, children_of, keyword_of, keywords_of, rule_of, ruled_of, schema_of, schemas_of, step_of, target_of, targets_of}
+use Rattle.neldrafi_schema.specs.machine.Compiled.{branch_of, branches_of, children_of, dependency_of, keyword_of, keywords_of, rule_of, ruled_of, schema_of, schemas_of, step_of, target_of, targets_of, header_of}
 use Rattle.neldrafi_schema.specs.declared.conditions.Choice.TheVariants.{Leads}
 use Rattle.neldrafi_schema.specs.machine.Conditions.{Ends, Means}
+use Rattle.neldrafi_schema.specs.machine.Counted.{AreCounted}
 use Rattle.neldrafi_schema.specs.machine.Found.{kind_of, kinds_of}
 use Rattle.neldrafi_schema.specs.machine.Left.{AreFindings, AreSpans}
-use Rattle.neldrafi_schema.specs.machine.Ready.{IsKeywordReady, IsRuledReady, steps_for}
+use Rattle.neldrafi_schema.specs.machine.Ready.{IsKeywordReady, IsPatternReady, IsRuledReady, steps_for}
+use Rattle.neldrafi_schema.proofs.Applied.{all_of_report, contains_report, counting_report, dependent_report, dependent_stops, matching_report, no_other_items_report, no_other_members_report, other_members_report, reference_report}
+use Rattle.neldrafi_schema.proofs.Choosing.{AreLess, first_less, member_passes, member_skipped, member_stops}
+use Rattle.neldrafi_schema.proofs.Counts.{Counted, all_counted}
 use Rattle.neldrafi_schema.proofs.Endings.{ends_inside, ends_some, keyword_end}
 use Rattle.neldrafi_schema.proofs.Entering.{span_ends}
-use Rattle.neldrafi_schema.proofs.Lists.{all_at, drop_past, empty_by, not_empty_by}
+use Rattle.neldrafi_schema.proofs.Leaving.{AllLeft, as_items, branch_ends, item_counted, item_not_counted, item_too_many, items_start, no_items_counted, no_items_left, one_too_many, present_passes, present_skipped, present_stops, schema_counted, schema_not_counted, schema_passes, schema_stops, several_pass, several_stop}
+use Rattle.neldrafi_schema.proofs.Lists.{all_at, drop_one, drop_past, empty_by, not_empty_by}
 use Rattle.neldrafi_schema.proofs.Plain.{child_passes, child_stops, no_child, none_by, other_items_report, placed_report, plain_reports, properties_report}
 use Rattle.neldrafi_schema.proofs.Depth.{child_depth, fewer_steps}
 use Rattle.neldrafi_schema.proofs.Each.{all_items, branch_passes, branch_stops, item_depth, item_passes, item_skipped, item_stops, no_items, none_from}
-use Rattle.neldrafi_schema.proofs.Items.{array_items, no_array_items}
+use Rattle.neldrafi_schema.proofs.Items.{array_items, no_array_items, no_branches, no_object_members, no_patterns, object_members}
 use Rattle.neldrafi_schema.proofs.Taken.{beside_left, inside_left, itself_left, keywords_left, left_found, no_keywords_left, not_beside, own_found, part_left, some_spanned, speaks_of_none, text_beside, text_left}
 use Rattle.neldrafi_schema.proofs.Taking.{keyword_left, left_all_seen, left_more, left_none}
+use Rattle.neldrafi_schema.proofs.Within.{members_in_less}
 use Rattle.neldrafi_schema.proofs.Visited.{holds, no_kinds, no_targets, nothing_mapped, refutes, rule_passes}
 use Rattle.neldrafi_schema.proofs.Visiting.{Next, Within, always_accepts, few_below, goes_on, goes_on_target, is_body, keyword_ends, keyword_ready, keywords_accept, keywords_below, keywords_ready, keywords_refuse, never_accepts, next_found, next_tested, stops, stops_target, verdict_more}
-use Rattle.neldrafi_schema.proofs.validity.Checker.+accepts.Goals.{children_accept-in-Some+in_ok-accepts+else-not-branch, children_accept-in_default, items_accept_by-then-place-from+in_ok-accepts+else-not-branch, items_accept_by-else-place-from}
+use Rattle.neldrafi_schema.proofs.validity.Checker.+accepts.Goals.{children_accept-in-Some+in_ok-accepts+else-not-branch, children_accept-in_default, items_accept_by-then-place-from+in_ok-accepts+else-not-branch, items_accept_by-else-place-from, present_accept-then-is_present+in_ok-accepts+else-not-branch, present_accept-else-is_present, items_counted-then-branch+else-is_past, items_counted-else-branch, counted_accept-then-branch+else-is_past, counted_accept-else-branch}
 use Rattle.neldrafi_schema.proofs.validity.Checker.+accepts.Goals as goal
 
 pub accepts-offset_bounds-self-number : goal.accepts-offset_bounds-self-number
@@ -99,19 +110,19 @@ accepts-returns-then-not-branch g t c = λ lists tests k site h.
     let items = c.deref-keyword-items.result.now in
     keywords_refuse outcome nodes c.args.number c.args.steps node c.index-self-number.is c.requires.end
     c.in-Keywords.keywords items c.in-Keywords.is c.deref-keyword-items.ensures.value lists (view c.args.instance.now) k site h
-    (λ j less. stops outcome nodes (Within outcome nodes lists j) lists node.location (view c.args.instance.now) site items c.deref-in-loop-keyword.result.now
+    (λ j less. stops outcome nodes (Within outcome nodes lists j) lists (header_of node.header) (view c.args.instance.now) site items c.deref-in-loop-keyword.result.now
     c.loop-keyword.keyword-index c.keyword-item.result c.loop-keyword-test.true c.keyword-item.is
     (c.deref-in-loop-keyword.ensures.value ∙ sym c.deref-keyword-items.ensures.value) c.in_ok-conditional_accepts.field-0
-    (c.in_ok-conditional_accepts.ensures lists tests j node.location site less) c.if-not-branch.true (c.loop-keyword.invariant lists tests j node.location site less))
+    (c.in_ok-conditional_accepts.ensures lists tests j (header_of node.header) site less) c.if-not-branch.true (c.loop-keyword.invariant lists tests j (header_of node.header) site less))
 
 pub accepts-loop-keyword-preserved : goal.accepts-loop-keyword-preserved
-accepts-loop-keyword-preserved g t c = λ lists tests k location site h.
+accepts-loop-keyword-preserved g t c = λ lists tests k header site h.
     let outcome = g.E.RegexEngine.outcome in
     let nodes = c.args.self.now.nodes.now in
-    goes_on outcome nodes (Within outcome nodes lists k) lists location (view c.args.instance.now) site c.deref-keyword-items.result.now c.deref-in-loop-keyword.result.now
+    goes_on outcome nodes (Within outcome nodes lists k) lists header (view c.args.instance.now) site c.deref-keyword-items.result.now c.deref-in-loop-keyword.result.now
     c.loop-keyword.keyword-index c.keyword-item.result c.loop-keyword-test.true c.keyword-item.is
     (c.deref-in-loop-keyword.ensures.value ∙ sym c.deref-keyword-items.ensures.value) c.in_ok-conditional_accepts.field-0
-    (c.in_ok-conditional_accepts.ensures lists tests k location site h) c.if-not-branch.false (c.loop-keyword.invariant lists tests k location site h)
+    (c.in_ok-conditional_accepts.ensures lists tests k header site h) c.if-not-branch.false (c.loop-keyword.invariant lists tests k header site h)
 
 pub accepts-returns : goal.accepts-returns
 accepts-returns g t c = λ lists tests k site h.
@@ -121,7 +132,7 @@ accepts-returns g t c = λ lists tests k site h.
     let items = c.deref-keyword-items.result.now in
     keywords_accept outcome nodes c.args.number c.args.steps node c.index-self-number.is c.requires.end
     c.in-Keywords.keywords items c.in-Keywords.is c.deref-keyword-items.ensures.value lists (view c.args.instance.now) k site h
-    (λ j less. (c.loop-keyword.invariant lists tests j node.location site less).1 (rw (drop_past items c.loop-keyword.keyword-index c.loop-keyword-test.false) refl))
+    (λ j less. (c.loop-keyword.invariant lists tests j (header_of node.header) site less).1 (rw (drop_past items c.loop-keyword.keyword-index c.loop-keyword-test.false) refl))
 
 -- ---- the verdict on `if`
 
@@ -164,31 +175,31 @@ conditional_accepts-accepts-requires g t c κs within =
     (omega (arith, c.decreases), (within.0, (within.1, (c.requires.ready, (c.requires.answers, (c.requires.few, leads))))))
 
 pub conditional_accepts-returns-in-Passes : goal.conditional_accepts-returns-in-Passes
-conditional_accepts-returns-in-Passes g t c = λ lists tests k location site h.
+conditional_accepts-returns-in-Passes g t c = λ lists tests k header site h.
     let outcome = g.E.RegexEngine.outcome in
     let schemas = schemas_of outcome c.args.self.now.nodes.now in
     let beside = keywords_of outcome c.args.beside.now in
     let key = keyword_of outcome c.args.conditional.now.keyword.now in
     let d = view c.args.instance.now in
-    let means = subst (Means schemas (Reports schemas lists k) lists location beside key d site) c.in-Passes.is
-    (c.choice_of.ensures.means outcome schemas lists k location beside d site (c.requires.condition lists tests k h)) in
+    let means = subst (Means schemas (Reports schemas lists k) lists header beside key d site) c.in-Passes.is
+    (c.choice_of.ensures.means outcome schemas lists k header beside d site (c.requires.condition lists tests k h)) in
     holds _ true refl means
 
 pub conditional_accepts-returns-in-Leads : goal.conditional_accepts-returns-in-Leads
-conditional_accepts-returns-in-Leads g t c = λ lists tests. IfOk-weaker c.accepts.result _ _ (λ b p k location site h.
+conditional_accepts-returns-in-Leads g t c = λ lists tests. IfOk-weaker c.accepts.result _ _ (λ b p k header site h.
     let outcome = g.E.RegexEngine.outcome in
     let schemas = schemas_of outcome c.args.self.now.nodes.now in
     let beside = keywords_of outcome c.args.beside.now in
     let key = keyword_of outcome c.args.conditional.now.keyword.now in
     let d = view c.args.instance.now in
-    let means = subst (Means schemas (Reports schemas lists k) lists location beside key d site) c.in-Leads.is
-    (c.choice_of.ensures.means outcome schemas lists k location beside d site (c.requires.condition lists tests k h)) in
+    let means = subst (Means schemas (Reports schemas lists k) lists header beside key d site) c.in-Leads.is
+    (c.choice_of.ensures.means outcome schemas lists k header beside d site (c.requires.condition lists tests k h)) in
     means b (λ at. p k at h)) (c.accepts.ensures lists tests)
 
 pub keyword_accepts-returns-in-Text : goal.keyword_accepts-returns-in-Text
 keyword_accepts-returns-in-Text g t c = λ lists tests. IfOk-weaker c.text_accepts.result _ _
-    (λ b p k location site h. rw c.in-Text.is
-    (subst (λ o. IsTrue b ↔ TextReports lists (assertions_of g.E.RegexEngine.outcome c.in-Text.validator) o site []) c.as_str.ensures (p site)))
+    (λ b p k header site h. rw c.in-Text.is
+    (subst (λ o. IsTrue b ↔ TextReports lists header (keyword_name c.in-Text.field-0) (assertions_of g.E.RegexEngine.outcome c.in-Text.validator) o site []) c.as_str.ensures (p header _ site)))
     (tests _ _ _ c.text_accepts.ensures)
 
 pub keyword_accepts-rule_accepts-requires : goal.keyword_accepts-rule_accepts-requires
@@ -202,13 +213,159 @@ pub found_accepts-findings-requires : goal.found_accepts-findings-requires
 found_accepts-findings-requires g t c κs within =
     (omega (arith, c.decreases), (within.0, (within.1, (c.requires.ready, (c.requires.answers, (c.requires.few, (c.requires.this, (c.requires.others, (c.requires.ends, c.requires.end)))))))))
 
-pub rule_accepts-returns-in-Some : goal.rule_accepts-returns-in-Some
-rule_accepts-returns-in-Some g t c = λ lists tests k location site h.
+pub rule_accepts-returns-in-Some-default : goal.rule_accepts-returns-in-Some-default
+rule_accepts-returns-in-Some-default g t c = λ lists tests k header site h.
     let outcome = g.E.RegexEngine.outcome in
     let nodes = c.args.self.now.nodes.now in
     let ruled = c.args.ruled.now in
-    plain_reports (schemas_of outcome nodes) (Within outcome nodes lists k) lists location (keywords_of outcome c.args.beside.now) (string_bytes ruled.name)
-    (rule_of outcome ruled.rule) (branches_of ruled.branches.items) (view c.args.instance.now) site c.in-Some.holds (c.in-Some.ensures outcome)
+    plain_reports (schemas_of outcome nodes) (Within outcome nodes lists k) lists header (keywords_of outcome c.args.beside.now) (string_bytes ruled.name)
+    (rule_of outcome ruled.rule) (branches_of ruled.branches.items) (view c.args.instance.now) site c.in-Some-default.holds (c.in-Some-default.ensures outcome)
+
+pub rule_accepts-returns-in-None-Some : goal.rule_accepts-returns-in-None-Some
+rule_accepts-returns-in-None-Some g t c = λ lists tests. IfOk-weaker c.counted_accept.result _ _ (λ b says k header site h.
+    let outcome = g.E.RegexEngine.outcome in
+    let nodes = c.args.self.now.nodes.now in
+    let ruled = c.args.ruled.now in
+    let d = view c.args.instance.now in
+    let word = string_bytes ruled.name in
+    let below = Within outcome nodes lists k in
+    let bounds = c.in-None-Some.bounds in
+    let reports = subst (λ l. IsTrue b ↔ AreCounted below site word (on_itself d (branches_of l)) bounds.least bounds.most) c.deref-in-None-Some.ensures.value (says k site word h) in
+    counting_report (schemas_of outcome nodes) below lists header (keywords_of outcome c.args.beside.now) word (branches_of ruled.branches.items) d site b
+    (rule_of outcome ruled.rule) bounds.least bounds.most (c.in-None-Some.ensures' outcome) reports)
+    (c.counted_accept.ensures lists tests)
+
+pub rule_accepts-returns-in-Reference : goal.rule_accepts-returns-in-Reference
+rule_accepts-returns-in-Reference g t c = λ lists tests. IfOk-weaker c.all_accept.result _ _ (λ b says k header site h.
+    let outcome = g.E.RegexEngine.outcome in
+    let nodes = c.args.self.now.nodes.now in
+    let ruled = c.args.ruled.now in
+    let d = view c.args.instance.now in
+    let word = string_bytes ruled.name in
+    let below = Within outcome nodes lists k in
+    let reports = subst (λ l. IsTrue b ↔ EachReports below site word (on_itself d (branches_of l)) []) c.deref-in-Reference.ensures.value (says k site word h) in
+    rw c.in-Reference.is (reference_report (schemas_of outcome nodes) below lists header (keywords_of outcome c.args.beside.now) word (branches_of ruled.branches.items) d site b reports))
+    (c.all_accept.ensures lists tests)
+
+pub rule_accepts-returns-in-AllOf : goal.rule_accepts-returns-in-AllOf
+rule_accepts-returns-in-AllOf g t c = λ lists tests. IfOk-weaker c.all_accept-in-AllOf.result _ _ (λ b says k header site h.
+    let outcome = g.E.RegexEngine.outcome in
+    let nodes = c.args.self.now.nodes.now in
+    let ruled = c.args.ruled.now in
+    let d = view c.args.instance.now in
+    let word = string_bytes ruled.name in
+    let below = Within outcome nodes lists k in
+    let reports = subst (λ l. IsTrue b ↔ EachReports below site word (on_itself d (branches_of l)) []) c.deref-in-AllOf.ensures.value (says k site word h) in
+    rw c.in-AllOf.is (all_of_report (schemas_of outcome nodes) below lists header (keywords_of outcome c.args.beside.now) word (branches_of ruled.branches.items) d site b reports))
+    (c.all_accept-in-AllOf.ensures lists tests)
+
+pub rule_accepts-returns-in-OtherMembers : goal.rule_accepts-returns-in-OtherMembers
+rule_accepts-returns-in-OtherMembers g t c = λ lists tests. IfOk-weaker c.others_accept.result _ _ (λ b says k header site h.
+    let outcome = g.E.RegexEngine.outcome in
+    let nodes = c.args.self.now.nodes.now in
+    let ruled = c.args.ruled.now in
+    let d = view c.args.instance.now in
+    let word = string_bytes ruled.name in
+    let below = Within outcome nodes lists k in
+    let beside = keywords_of outcome c.args.beside.now in
+    let bs = branches_of ruled.branches.items in
+    let others = on_members (other_members_in beside d) in
+    let reports = subst (λ l. IsTrue b ↔ EachReports below site word (flat_map others (branches_of l)) []) c.deref-in-OtherMembers.ensures.value (says k site word (omega (arith, h))) in
+    rw c.in-OtherMembers.is (other_members_report (schemas_of outcome nodes) below lists header beside word bs d site b reports))
+    (c.others_accept.ensures lists tests)
+
+pub rule_accepts-returns-in-NoOtherMembers : goal.rule_accepts-returns-in-NoOtherMembers
+rule_accepts-returns-in-NoOtherMembers g t c = λ lists tests. IfOk-weaker c.leads_to_all.result _ _ (λ b says k header site h.
+    let outcome = g.E.RegexEngine.outcome in
+    let nodes = c.args.self.now.nodes.now in
+    let ruled = c.args.ruled.now in
+    let d = view c.args.instance.now in
+    let word = string_bytes ruled.name in
+    let below = Within outcome nodes lists k in
+    let beside = keywords_of outcome c.args.beside.now in
+    let bs = branches_of ruled.branches.items in
+    rw c.in-NoOtherMembers.is (no_other_members_report (schemas_of outcome nodes) below lists header beside word bs d site b says))
+    (c.leads_to_all.ensures lists tests)
+
+pub rule_accepts-returns-in-Matching : goal.rule_accepts-returns-in-Matching
+rule_accepts-returns-in-Matching g t c = λ lists tests. IfOk-weaker c.matched_accept.result _ _ (λ b says k header site h.
+    let outcome = g.E.RegexEngine.outcome in
+    let nodes = c.args.self.now.nodes.now in
+    let ruled = c.args.ruled.now in
+    let d = view c.args.instance.now in
+    let word = string_bytes ruled.name in
+    let below = Within outcome nodes lists k in
+    let beside = keywords_of outcome c.args.beside.now in
+    let bs = branches_of ruled.branches.items in
+    let of = assertions_of outcome in
+    let patterns = map of c.in-Matching.patterns.items in
+    let read = subst (λ l. IsTrue b ↔ EachReports below site word (on_matched d (map of l) (branches_of c.deref-in-Matching-2.result.now)) []) c.deref-in-Matching.ensures.value
+    (says k site word (omega (arith, h))) in
+    let reports = subst (λ l. IsTrue b ↔ EachReports below site word (on_matched d patterns (branches_of l)) []) c.deref-in-Matching-2.ensures.value read in
+    rw c.in-Matching.is (matching_report (schemas_of outcome nodes) below lists header beside word bs d site b patterns reports))
+    (c.matched_accept.ensures lists tests)
+
+pub rule_accepts-returns-then-not-has_all_dependents : goal.rule_accepts-returns-then-not-has_all_dependents
+rule_accepts-returns-then-not-has_all_dependents g t c = λ lists tests k header site h.
+    let outcome = g.E.RegexEngine.outcome in
+    let nodes = c.args.self.now.nodes.now in
+    let ruled = c.args.ruled.now in
+    let d = view c.args.instance.now in
+    let word = string_bytes ruled.name in
+    let below = Within outcome nodes lists k in
+    let beside = keywords_of outcome c.args.beside.now in
+    let bs = branches_of ruled.branches.items in
+    let ds = map dependency_of c.in-Dependent.dependencies.items in
+    rw c.in-Dependent.is (refutes _ false refl (λ reported.
+    let none : flat_map (missing_beside d) ds ≡ [] = dependent_stops (schemas_of outcome nodes) below lists header beside word bs d site false ds reported in
+    absurd (false≢true (sym c.if-not-has_all_dependents.true
+    ∙ c.has_all_dependents.ensures.1 (ap (λ l. flat_map (missing_beside d) (map dependency_of l)) c.deref-in-Dependent.ensures.value ∙ none)))))
+
+pub rule_accepts-returns-else-not-has_all_dependents : goal.rule_accepts-returns-else-not-has_all_dependents
+rule_accepts-returns-else-not-has_all_dependents g t c = λ lists tests. IfOk-weaker c.present_accept.result _ _ (λ b says k header site h.
+    let outcome = g.E.RegexEngine.outcome in
+    let nodes = c.args.self.now.nodes.now in
+    let ruled = c.args.ruled.now in
+    let d = view c.args.instance.now in
+    let word = string_bytes ruled.name in
+    let below = Within outcome nodes lists k in
+    let beside = keywords_of outcome c.args.beside.now in
+    let bs = branches_of ruled.branches.items in
+    let ds = map dependency_of c.in-Dependent.dependencies.items in
+    let none : flat_map (missing_beside d) ds ≡ [] = ap (λ l. flat_map (missing_beside d) (map dependency_of l)) (sym c.deref-in-Dependent.ensures.value)
+    ∙ c.has_all_dependents.ensures.0 c.if-not-has_all_dependents.false in
+    let reports = subst (λ l. IsTrue b ↔ EachReports below site word (on_itself d (filter (is_present d) (branches_of l))) []) c.deref-in-Dependent-2.ensures.value (says k site word h) in
+    rw c.in-Dependent.is (dependent_report (schemas_of outcome nodes) below lists header beside word bs d site b ds none reports))
+    (c.present_accept.ensures lists tests)
+
+pub rule_accepts-returns-in-Some : goal.rule_accepts-returns-in-Some
+rule_accepts-returns-in-Some g t c = λ lists tests. IfOk-weaker c.items_counted.result _ _ (λ b says k header site h.
+    let outcome = g.E.RegexEngine.outcome in
+    let nodes = c.args.self.now.nodes.now in
+    let ruled = c.args.ruled.now in
+    let d = view c.args.instance.now in
+    let word = string_bytes ruled.name in
+    let below = Within outcome nodes lists k in
+    let beside = keywords_of outcome c.args.beside.now in
+    let bs = branches_of ruled.branches.items in
+    let only = branch_of c.in-Some.branch.now in
+    let one : bs ≡ only ∷ [] = ap branches_of (sym c.deref-in-Contains.ensures.value ∙ c.in-Some.ensures) in
+    rw c.in-Contains.is (contains_report (schemas_of outcome nodes) below lists header beside word bs d site b only c.in-Contains.least c.in-Contains.most c.in-Contains.field-2 one
+    (says k site word (omega (arith, h)))))
+    (c.items_counted.ensures lists tests)
+
+pub rule_accepts-returns-in-NoOtherItems : goal.rule_accepts-returns-in-NoOtherItems
+rule_accepts-returns-in-NoOtherItems g t c = λ lists tests k header site h.
+    let outcome = g.E.RegexEngine.outcome in
+    let nodes = c.args.self.now.nodes.now in
+    let ruled = c.args.ruled.now in
+    let d = view c.args.instance.now in
+    let word = string_bytes ruled.name in
+    let below = Within outcome nodes lists k in
+    let beside = keywords_of outcome c.args.beside.now in
+    let bs = branches_of ruled.branches.items in
+    rw c.in-NoOtherItems.is (no_other_items_report (schemas_of outcome nodes) below lists header beside word bs d site c.has_no_items_from.result
+    c.placed_count-in-NoOtherItems.result (c.placed_count-in-NoOtherItems.ensures outcome) c.has_no_items_from.ensures)
 
 pub rule_accepts-found_accepts-requires : goal.rule_accepts-found_accepts-requires
 rule_accepts-found_accepts-requires g t c κs within =
@@ -219,7 +376,7 @@ rule_accepts-children_accept-requires g t c κs within =
     (omega (arith, c.decreases), (within.0, (within.1, (c.requires.ready, (c.requires.answers, rw c.deref.ensures.value c.requires.this.1)))))
 
 pub rule_accepts-returns-in-Properties : goal.rule_accepts-returns-in-Properties
-rule_accepts-returns-in-Properties g t c = λ lists tests. IfOk-weaker c.children_accept.result _ _ (λ b says k location site h.
+rule_accepts-returns-in-Properties g t c = λ lists tests. IfOk-weaker c.children_accept.result _ _ (λ b says k header site h.
     let outcome = g.E.RegexEngine.outcome in
     let nodes = c.args.self.now.nodes.now in
     let ruled = c.args.ruled.now in
@@ -227,11 +384,11 @@ rule_accepts-returns-in-Properties g t c = λ lists tests. IfOk-weaker c.childre
     let word = string_bytes ruled.name in
     let below = Within outcome nodes lists k in
     let reports = subst (λ l. IsTrue b ↔ EachReports below site word (flat_map (on_child d) (branches_of l)) []) c.deref.ensures.value (says k site word (omega (arith, h))) in
-    rw c.in-Properties.is (properties_report (schemas_of outcome nodes) below lists location (keywords_of outcome c.args.beside.now) word (branches_of ruled.branches.items) d site b reports))
+    rw c.in-Properties.is (properties_report (schemas_of outcome nodes) below lists header (keywords_of outcome c.args.beside.now) word (branches_of ruled.branches.items) d site b reports))
     (c.children_accept.ensures lists tests)
 
 pub rule_accepts-returns-in-Placed : goal.rule_accepts-returns-in-Placed
-rule_accepts-returns-in-Placed g t c = λ lists tests. IfOk-weaker c.children_accept-in-Placed.result _ _ (λ b says k location site h.
+rule_accepts-returns-in-Placed g t c = λ lists tests. IfOk-weaker c.children_accept-in-Placed.result _ _ (λ b says k header site h.
     let outcome = g.E.RegexEngine.outcome in
     let nodes = c.args.self.now.nodes.now in
     let ruled = c.args.ruled.now in
@@ -239,7 +396,7 @@ rule_accepts-returns-in-Placed g t c = λ lists tests. IfOk-weaker c.children_ac
     let word = string_bytes ruled.name in
     let below = Within outcome nodes lists k in
     let reports = subst (λ l. IsTrue b ↔ EachReports below site word (flat_map (on_child d) (branches_of l)) []) c.deref-in-Placed.ensures.value (says k site word (omega (arith, h))) in
-    rw c.in-Placed.is (placed_report (schemas_of outcome nodes) below lists location (keywords_of outcome c.args.beside.now) word (branches_of ruled.branches.items) d site b reports))
+    rw c.in-Placed.is (placed_report (schemas_of outcome nodes) below lists header (keywords_of outcome c.args.beside.now) word (branches_of ruled.branches.items) d site b reports))
     (c.children_accept-in-Placed.ensures lists tests)
 
 pub rule_accepts-items_accept-requires : goal.rule_accepts-items_accept-requires
@@ -247,7 +404,7 @@ rule_accepts-items_accept-requires g t c κs within =
     (omega (arith, c.decreases), (within.0, (within.1, (c.requires.ready, (c.requires.answers, rw c.deref-in-OtherItems.ensures.value c.requires.this.1)))))
 
 pub rule_accepts-returns-in-OtherItems : goal.rule_accepts-returns-in-OtherItems
-rule_accepts-returns-in-OtherItems g t c = λ lists tests. IfOk-weaker c.items_accept.result _ _ (λ b says k location site h.
+rule_accepts-returns-in-OtherItems g t c = λ lists tests. IfOk-weaker c.items_accept.result _ _ (λ b says k header site h.
     let outcome = g.E.RegexEngine.outcome in
     let nodes = c.args.self.now.nodes.now in
     let ruled = c.args.ruled.now in
@@ -257,9 +414,391 @@ rule_accepts-returns-in-OtherItems g t c = λ lists tests. IfOk-weaker c.items_a
     let from = c.placed_count.result in
     let reports = subst (λ l. IsTrue b ↔ EachReports below site word (flat_map (on_items (drop from (placed_items d))) (branches_of l)) []) c.deref-in-OtherItems.ensures.value
     (says k site word (omega (arith, h))) in
-    rw c.in-OtherItems.is (other_items_report (schemas_of outcome nodes) below lists location (keywords_of outcome c.args.beside.now) word (branches_of ruled.branches.items) d site b
+    rw c.in-OtherItems.is (other_items_report (schemas_of outcome nodes) below lists header (keywords_of outcome c.args.beside.now) word (branches_of ruled.branches.items) d site b
     from (c.placed_count.ensures outcome) reports))
     (c.items_accept.ensures lists tests)
+
+-- ---- schemas of the instance itself
+
+pub all_accept-accepts-requires : goal.all_accept-accepts-requires
+all_accept-accepts-requires g t c κs within =
+    let end = branch_ends (ends (schemas_of g.E.RegexEngine.outcome c.args.self.now.nodes.now) c.args.steps) c.args.branches.now c.loop-branch.branch-index c.branch-item.result
+    c.requires.end c.loop-branch-test.true c.branch-item.is in
+    (omega (arith, c.decreases), (within.0, (within.1, (c.requires.ready, (c.requires.answers, (c.requires.few, end))))))
+
+pub all_accept-loop-branch-preserved : goal.all_accept-loop-branch-preserved
+all_accept-loop-branch-preserved g t c = λ lists tests k site word h.
+    schema_passes (Within g.E.RegexEngine.outcome c.args.self.now.nodes.now lists k) site word (view c.args.instance.now) c.args.branches.now c.loop-branch.branch-index c.branch-item.result
+    c.loop-branch-test.true c.branch-item.is c.in_ok-accepts.field-0 (λ at. c.in_ok-accepts.ensures lists tests k at h) c.if-not-branch.false
+    (c.loop-branch.invariant lists tests k site word h)
+
+pub all_accept-returns-then-not-branch : goal.all_accept-returns-then-not-branch
+all_accept-returns-then-not-branch g t c = λ lists tests k site word h. refutes _ false refl (λ reported. absurd (
+    schema_stops (Within g.E.RegexEngine.outcome c.args.self.now.nodes.now lists k) site word (view c.args.instance.now) c.args.branches.now c.loop-branch.branch-index c.branch-item.result
+    c.loop-branch-test.true c.branch-item.is c.in_ok-accepts.field-0 (λ at. c.in_ok-accepts.ensures lists tests k at h) c.if-not-branch.true
+    (c.loop-branch.invariant lists tests k site word h) reported))
+
+pub counted_accept-accepts-requires : goal.counted_accept-accepts-requires
+counted_accept-accepts-requires g t c κs within =
+    let end = branch_ends (ends (schemas_of g.E.RegexEngine.outcome c.args.self.now.nodes.now) c.args.steps) c.args.branches.now c.loop-branch.branch-index c.branch-item.result
+    c.requires.end c.loop-branch-test.true c.branch-item.is in
+    (omega (arith, c.decreases), (within.0, (within.1, (c.requires.ready, (c.requires.answers, (c.requires.few, end))))))
+
+pub counted_accept-returns : goal.counted_accept-returns
+counted_accept-returns g t c = λ lists tests k site word h.
+    let below = Within g.E.RegexEngine.outcome c.args.self.now.nodes.now lists k in
+    let all = on_itself (view c.args.instance.now) (branches_of c.args.branches.now) in
+    all_counted below site word all c.loop-branch.count c.args.bounds.least c.args.bounds.most c.is_between.result c.is_between.ensures
+    (subst (λ bs. Counted below site word all c.loop-branch.count (on_itself (view c.args.instance.now) (branches_of bs)))
+    (drop_past c.args.branches.now c.loop-branch.branch-index c.loop-branch-test.false) (c.loop-branch.invariant.counted lists tests k site word h))
+
+pub counted_accept-loop-branch-preserved : goal.counted_accept-loop-branch-preserved
+counted_accept-loop-branch-preserved g t c =
+    let d = view c.args.instance.now in
+    let items = c.args.branches.now in
+    let i = c.loop-branch.branch-index in
+    let b = c.branch-item.result in elim c.if-branch.branch [
+      | counted_accept-then-branch+else-is_past w ↦ record {
+        small = omega (arith, c.loop-branch.invariant.small, w.count-is);
+        counted = λ lists tests k site word h. rw w.count-is (schema_counted (Within g.E.RegexEngine.outcome c.args.self.now.nodes.now lists k) site word d items i b
+            c.loop-branch-test.true c.branch-item.is c.in_ok-accepts.field-0 (λ at. c.in_ok-accepts.ensures lists tests k at h) c.loop-branch.count
+            (c.loop-branch.invariant.counted lists tests k site word h) w.if-branch.true);
+      }
+      | counted_accept-else-branch w ↦ record {
+        small = omega (arith, c.loop-branch.invariant.small, w.count-is);
+        counted = λ lists tests k site word h. rw w.count-is (schema_not_counted (Within g.E.RegexEngine.outcome c.args.self.now.nodes.now lists k) site word d items i b
+            c.loop-branch-test.true c.branch-item.is c.in_ok-accepts.field-0 (λ at. c.in_ok-accepts.ensures lists tests k at h) c.loop-branch.count
+            (c.loop-branch.invariant.counted lists tests k site word h) w.if-branch.false);
+      }
+    ]
+
+pub counted_accept-returns-then-is_past : goal.counted_accept-returns-then-is_past
+counted_accept-returns-then-is_past g t c = λ lists tests k site word h. refutes _ false refl (λ reported. absurd (
+    one_too_many (Within g.E.RegexEngine.outcome c.args.self.now.nodes.now lists k) site word (view c.args.instance.now) c.args.branches.now c.loop-branch.branch-index c.branch-item.result
+    c.loop-branch-test.true c.branch-item.is c.in_ok-accepts.field-0 (λ at. c.in_ok-accepts.ensures lists tests k at h) c.loop-branch.count
+    (c.loop-branch.invariant.counted lists tests k site word h) c.args.bounds.least c.args.bounds.most c.if-branch.true (sym c.is_past.ensures ∙ c.if-is_past.true) reported))
+
+-- ---- schemas of the instance itself whose keys it has
+
+pub present_accept-accepts-requires : goal.present_accept-accepts-requires
+present_accept-accepts-requires g t c κs within =
+    let end = branch_ends (ends (schemas_of g.E.RegexEngine.outcome c.args.self.now.nodes.now) c.args.steps) c.args.branches.now c.loop-branch.branch-index c.branch-item.result
+    c.requires.end c.loop-branch-test.true c.branch-item.is in
+    (omega (arith, c.decreases), (within.0, (within.1, (c.requires.ready, (c.requires.answers, (c.requires.few, end))))))
+
+pub present_accept-returns-then-not-branch : goal.present_accept-returns-then-not-branch
+present_accept-returns-then-not-branch g t c = λ lists tests k site word h. refutes _ false refl (λ reported. absurd (
+    present_stops (Within g.E.RegexEngine.outcome c.args.self.now.nodes.now lists k) site word (view c.args.instance.now) c.args.branches.now c.loop-branch.branch-index c.branch-item.result
+    c.loop-branch-test.true c.branch-item.is c.is_present.result c.is_present.ensures (c.loop-branch.invariant lists tests k site word h) c.if-is_present.true
+    c.in_ok-accepts.field-0 (λ at. c.in_ok-accepts.ensures lists tests k at h) c.if-not-branch.true reported))
+
+pub present_accept-loop-branch-preserved : goal.present_accept-loop-branch-preserved
+present_accept-loop-branch-preserved g t c = λ lists tests k site word h.
+    let below = Within g.E.RegexEngine.outcome c.args.self.now.nodes.now lists k in
+    let d = view c.args.instance.now in
+    let items = c.args.branches.now in
+    let i = c.loop-branch.branch-index in
+    let before = c.loop-branch.invariant lists tests k site word h in elim c.if-is_present.branch [
+      | present_accept-then-is_present+in_ok-accepts+else-not-branch w ↦
+          present_passes below site word d items i c.branch-item.result c.loop-branch-test.true c.branch-item.is c.is_present.result c.is_present.ensures before w.if-is_present.true
+          w.in_ok-accepts.field-0 (λ at. w.in_ok-accepts.ensures lists tests k at h) w.if-not-branch.false
+      | present_accept-else-is_present w ↦
+          present_skipped below site word d items i c.branch-item.result c.loop-branch-test.true c.branch-item.is c.is_present.result c.is_present.ensures before w.if-is_present.false
+    ]
+
+-- ---- member by member
+
+pub members_accept-returns-in_default : goal.members_accept-returns-in_default
+members_accept-returns-in_default g t c = λ lists tests k site word h.
+    let d = view c.args.instance.now in
+    let none : as_object d ≡ None = sym c.as_object.ensures ∙ ap (option_map (λ v. members_view v.now.entries)) (none_by c.as_object.result c.in_default.not-Some) in
+    holds _ true refl (rw (no_object_members d none) refl)
+
+pub members_accept-loop-name-init : goal.members_accept-loop-name-init
+members_accept-loop-name-init g t c =
+    let d = view c.args.instance.now in
+    let all = c.in-Some.members.now.entries in
+    let same : c.into_iter-name-iterator.result ≡ all = search rules in
+    let found : as_object d ≡ Some (members_view all) = search rules in record {
+      all = λ lists tests k site word h. rw (same, object_members d (members_view all) found) (λ x. x, λ x. x);
+      less = rw same (subst (AreLess d) (object_members d (members_view all) found) (members_in_less d));
+    }
+
+pub members_accept-accepts-requires : goal.members_accept-accepts-requires
+members_accept-accepts-requires g t c κs within =
+    let nodes = c.args.self.now.nodes.now in
+    let d = view c.args.instance.now in
+    let v = view c.in-Some-2.value.now in
+    let less = first_less d (string_bytes c.in-Some-2.name.now, v) (member_list (members_view c.next.new.self)) (member_list (members_view c.loop-name.name-iterator))
+    (ap (λ es. member_list (members_view es)) c.in-Some-2.ensures.steps) c.loop-name.invariant.less in
+    let fewer = fewer_steps (length nodes) (depth v) (depth d) 0 less.0 in
+    (omega (arith, c.decreases, fewer), (within.0, (within.1, (c.requires.ready, (c.requires.answers, (le_refl (length nodes), c.requires.ready.end c.args.branch.now.schema c.requires.there))))))
+
+pub members_accept-returns-then-not-branch : goal.members_accept-returns-then-not-branch
+members_accept-returns-then-not-branch g t c = λ lists tests k site word h.
+    let outcome = g.E.RegexEngine.outcome in
+    let nodes = c.args.self.now.nodes.now in
+    let below = Within outcome nodes lists k in
+    let d = view c.args.instance.now in
+    let v = view c.in-Some-2.value.now in
+    let m : List ℕ × Data = (string_bytes c.in-Some-2.name.now, v) in
+    let b = branch_of c.args.branch.now in
+    let chosen = c.args.chosen.now in
+    let rest = member_list (members_view c.next.new.self) in
+    let it = member_list (members_view c.loop-name.name-iterator) in
+    let step : it ≡ m ∷ rest = ap (λ es. member_list (members_view es)) c.in-Some-2.ensures.steps in
+    let less = first_less d m rest it step c.loop-name.invariant.less in
+    let fewer = fewer_steps (length nodes) (depth v) (depth d) 0 less.0 in
+    let is : c.in_ok-chooses.field-0 ≡ is_chosen outcome chosen (string_bytes c.in-Some-2.name.now) = c.in_ok-chooses.ensures lists tests ∙ ap (is_chosen outcome chosen) c.as_str.ensures.value in
+    refutes _ false refl (λ reported. absurd (member_stops below site word (on_members (chosen_members outcome chosen d) b) b (λ (x : List ℕ × Data). is_chosen outcome chosen x.0)
+    m rest it step c.in_ok-chooses.field-0 is (c.loop-name.invariant.all lists tests k site word h) c.if-branch.true c.in_ok-accepts.field-0
+    (λ at. c.in_ok-accepts.ensures lists tests k at (omega (arith, fewer, h))) c.if-not-branch.true reported))
+
+pub members_accept-loop-name-preserved : goal.members_accept-loop-name-preserved
+members_accept-loop-name-preserved g t c =
+    let outcome = g.E.RegexEngine.outcome in
+    let d = view c.args.instance.now in
+    let v = view c.in-Some-2.value.now in
+    let m : List ℕ × Data = (string_bytes c.in-Some-2.name.now, v) in
+    let b = branch_of c.args.branch.now in
+    let chosen = c.args.chosen.now in
+    let rest = member_list (members_view c.next.new.self) in
+    let it = member_list (members_view c.loop-name.name-iterator) in
+    let step : it ≡ m ∷ rest = ap (λ es. member_list (members_view es)) c.in-Some-2.ensures.steps in
+    let less = first_less d m rest it step c.loop-name.invariant.less in
+    record {
+      all = λ lists tests k site word h.
+          let below = Within outcome c.args.self.now.nodes.now lists k in
+          let is : c.in_ok-chooses.field-0 ≡ is_chosen outcome chosen (string_bytes c.in-Some-2.name.now) = c.in_ok-chooses.ensures lists tests ∙ ap (is_chosen outcome chosen) c.as_str.ensures.value in
+          member_skipped below site word (on_members (chosen_members outcome chosen d) b) b (λ (x : List ℕ × Data). is_chosen outcome chosen x.0)
+          m rest it step c.in_ok-chooses.field-0 is (c.loop-name.invariant.all lists tests k site word h) c.if-branch.false;
+      less = less.1;
+    }
+
+pub members_accept-loop-name-preserved-else-not-branch : goal.members_accept-loop-name-preserved-else-not-branch
+members_accept-loop-name-preserved-else-not-branch g t c =
+    let outcome = g.E.RegexEngine.outcome in
+    let d = view c.args.instance.now in
+    let v = view c.in-Some-2.value.now in
+    let m : List ℕ × Data = (string_bytes c.in-Some-2.name.now, v) in
+    let b = branch_of c.args.branch.now in
+    let chosen = c.args.chosen.now in
+    let rest = member_list (members_view c.next.new.self) in
+    let it = member_list (members_view c.loop-name.name-iterator) in
+    let step : it ≡ m ∷ rest = ap (λ es. member_list (members_view es)) c.in-Some-2.ensures.steps in
+    let less = first_less d m rest it step c.loop-name.invariant.less in
+    let nodes = c.args.self.now.nodes.now in
+    let fewer = fewer_steps (length nodes) (depth v) (depth d) 0 less.0 in
+    record {
+      all = λ lists tests k site word h.
+          let below = Within outcome nodes lists k in
+          let is : c.in_ok-chooses.field-0 ≡ is_chosen outcome chosen (string_bytes c.in-Some-2.name.now) = c.in_ok-chooses.ensures lists tests ∙ ap (is_chosen outcome chosen) c.as_str.ensures.value in
+          member_passes below site word (on_members (chosen_members outcome chosen d) b) b (λ (x : List ℕ × Data). is_chosen outcome chosen x.0)
+          m rest it step c.in_ok-chooses.field-0 is (c.loop-name.invariant.all lists tests k site word h) c.if-branch.true c.in_ok-accepts.field-0
+          (λ at. c.in_ok-accepts.ensures lists tests k at (omega (arith, fewer, h))) c.if-not-branch.false;
+      less = less.1;
+    }
+
+pub members_accept-returns : goal.members_accept-returns
+members_accept-returns g t c = λ lists tests k site word h.
+    let outcome = g.E.RegexEngine.outcome in
+    let b = branch_of c.args.branch.now in
+    let chosen = c.args.chosen.now in
+    let none : member_list (members_view c.loop-name.name-iterator) ≡ [] = ap (λ es. member_list (members_view es)) c.in-None.ensures.steps.0 in
+    holds _ true refl ((c.loop-name.invariant.all lists tests k site word h).1 (rw none refl))
+
+-- ---- the other members, by schemas
+
+pub others_accept-members_accept-requires : goal.others_accept-members_accept-requires
+others_accept-members_accept-requires g t c κs within =
+    let nodes = c.args.self.now.nodes.now in
+    let inside = all_at (λ b. b.schema < length nodes) c.args.branches.now c.loop-branch.branch-index c.branch-item.result c.requires.there c.loop-branch-test.true c.branch-item.is in
+    (omega (arith, c.decreases), (within.0, (within.1, (c.requires.ready, (c.requires.answers, ((c.requires.others, c.are_all_in_order.ensures), inside))))))
+
+pub others_accept-loop-branch-preserved : goal.others_accept-loop-branch-preserved
+others_accept-loop-branch-preserved g t c = λ lists tests k site word h.
+    let outcome = g.E.RegexEngine.outcome in
+    let below = Within outcome c.args.self.now.nodes.now lists k in
+    let items = c.args.branches.now in
+    let i = c.loop-branch.branch-index in
+    let b = c.branch-item.result in
+    let f = on_members (other_members_in (keywords_of outcome c.args.beside.now) (view c.args.instance.now)) in
+    let all = flat_map f (branches_of items) in
+    several_pass below site word all (f (branch_of b)) (flat_map f (branches_of (drop (i + 1) items))) c.in_ok-members_accept.field-0
+    (c.in_ok-members_accept.ensures lists tests k site word h)
+    (subst (λ l. AllLeft below site word all (flat_map f (branches_of l))) (drop_one items i b c.loop-branch-test.true c.branch-item.is) (c.loop-branch.invariant lists tests k site word h))
+    c.if-not-branch.false
+
+pub others_accept-returns-then-not-branch : goal.others_accept-returns-then-not-branch
+others_accept-returns-then-not-branch g t c = λ lists tests k site word h.
+    let outcome = g.E.RegexEngine.outcome in
+    let below = Within outcome c.args.self.now.nodes.now lists k in
+    let items = c.args.branches.now in
+    let i = c.loop-branch.branch-index in
+    let b = c.branch-item.result in
+    let f = on_members (other_members_in (keywords_of outcome c.args.beside.now) (view c.args.instance.now)) in
+    let all = flat_map f (branches_of items) in
+    refutes _ false refl (λ reported. absurd (several_stop below site word all (f (branch_of b)) (flat_map f (branches_of (drop (i + 1) items))) c.in_ok-members_accept.field-0
+    (c.in_ok-members_accept.ensures lists tests k site word h)
+    (subst (λ l. AllLeft below site word all (flat_map f (branches_of l))) (drop_one items i b c.loop-branch-test.true c.branch-item.is) (c.loop-branch.invariant lists tests k site word h))
+    c.if-not-branch.true reported))
+
+pub others_accept-returns : goal.others_accept-returns
+others_accept-returns g t c = λ lists tests k site word h.
+    holds _ true refl ((c.loop-branch.invariant lists tests k site word h).1 (rw (drop_past c.args.branches.now c.loop-branch.branch-index c.loop-branch-test.false) refl))
+
+-- ---- pattern by pattern
+
+pub matched_accept-members_accept-requires : goal.matched_accept-members_accept-requires
+matched_accept-members_accept-requires g t c κs within =
+    let outcome = g.E.RegexEngine.outcome in
+    let nodes = c.args.self.now.nodes.now in
+    let step = c.in-Some.ensures.steps in
+    let ready = subst (AllByRecursion (IsPatternReady outcome (MayTest g.T.Fn c.args.self.now.text_accepts.now) (length nodes))) step.0 c.loop-pattern.invariant.ready in
+    let there = subst (AllByRecursion (λ b. b.schema < length nodes)) step.1 c.loop-pattern.invariant.there in
+    (omega (arith, c.decreases), (within.0, (within.1, (c.requires.ready, (c.requires.answers, (ready.0, there.0))))))
+
+pub matched_accept-loop-pattern-preserved : goal.matched_accept-loop-pattern-preserved
+matched_accept-loop-pattern-preserved g t c =
+    let outcome = g.E.RegexEngine.outcome in
+    let nodes = c.args.self.now.nodes.now in
+    let d = view c.args.instance.now in
+    let step = c.in-Some.ensures.steps in
+    let patterns = iter_rest (zip_first c.next.new.self) in
+    let branches = iter_rest (zip_second c.next.new.self) in
+    let all = on_matched d (map (assertions_of outcome) c.args.patterns.now) (branches_of c.args.branches.now) in
+    let ts = on_members (filter (λ m. is_matched m.0 (assertions_of outcome c.in-Some.pattern.now)) (members_in d)) (branch_of c.in-Some.branch.now) in
+    let us = on_matched d (map (assertions_of outcome) patterns) (branches_of branches) in record {
+      ready = (subst (AllByRecursion (IsPatternReady outcome (MayTest g.T.Fn c.args.self.now.text_accepts.now) (length nodes))) step.0 c.loop-pattern.invariant.ready).1;
+      there = (subst (AllByRecursion (λ b. b.schema < length nodes)) step.1 c.loop-pattern.invariant.there).1;
+      all = λ lists tests k site word h.
+          let below = Within outcome nodes lists k in
+          several_pass below site word all ts us c.in_ok-members_accept.field-0 (c.in_ok-members_accept.ensures lists tests k site word h)
+          (subst (λ l. AllLeft below site word all (on_matched d (map (assertions_of outcome) (c.in-Some.pattern.now ∷ patterns)) (branches_of l))) step.1
+          (subst (λ l. AllLeft below site word all (on_matched d (map (assertions_of outcome) l) (branches_of (iter_rest (zip_second c.loop-pattern.pattern-iterator))))) step.0
+          (c.loop-pattern.invariant.all lists tests k site word h)))
+          c.if-not-branch.false;
+    }
+
+pub matched_accept-returns-then-not-branch : goal.matched_accept-returns-then-not-branch
+matched_accept-returns-then-not-branch g t c = λ lists tests k site word h.
+    let outcome = g.E.RegexEngine.outcome in
+    let nodes = c.args.self.now.nodes.now in
+    let below = Within outcome nodes lists k in
+    let d = view c.args.instance.now in
+    let step = c.in-Some.ensures.steps in
+    let patterns = iter_rest (zip_first c.next.new.self) in
+    let branches = iter_rest (zip_second c.next.new.self) in
+    let all = on_matched d (map (assertions_of outcome) c.args.patterns.now) (branches_of c.args.branches.now) in
+    let ts = on_members (filter (λ m. is_matched m.0 (assertions_of outcome c.in-Some.pattern.now)) (members_in d)) (branch_of c.in-Some.branch.now) in
+    let us = on_matched d (map (assertions_of outcome) patterns) (branches_of branches) in
+    refutes _ false refl (λ reported. absurd (several_stop below site word all ts us c.in_ok-members_accept.field-0 (c.in_ok-members_accept.ensures lists tests k site word h)
+    (subst (λ l. AllLeft below site word all (on_matched d (map (assertions_of outcome) (c.in-Some.pattern.now ∷ patterns)) (branches_of l))) step.1
+    (subst (λ l. AllLeft below site word all (on_matched d (map (assertions_of outcome) l) (branches_of (iter_rest (zip_second c.loop-pattern.pattern-iterator))))) step.0
+    (c.loop-pattern.invariant.all lists tests k site word h)))
+    c.if-not-branch.true reported))
+
+pub matched_accept-returns : goal.matched_accept-returns
+matched_accept-returns g t c = λ lists tests k site word h.
+    let d = view c.args.instance.now in
+    let of = assertions_of g.E.RegexEngine.outcome in
+    let patterns = iter_rest (zip_first c.loop-pattern.pattern-iterator) in
+    let branches = iter_rest (zip_second c.loop-pattern.pattern-iterator) in
+    let ended : on_matched d (map of patterns) (branches_of branches) ≡ [] = elim c.in-None.ensures.steps [
+      | inl p ↦ no_patterns d of branch_of patterns branches p.1.0
+      | inr p ↦ no_branches d of branch_of patterns branches p.1.0
+    ] in
+    holds _ true refl ((c.loop-pattern.invariant.all lists tests k site word h).1 (rw ended refl))
+
+-- ---- the items that are valid
+
+pub items_counted-returns-in_default : goal.items_counted-returns-in_default
+items_counted-returns-in_default g t c = λ lists tests k site word h.
+    let d = view c.args.instance.now in
+    let none : as_array d ≡ None = sym c.as_array.ensures ∙ ap (option_map (λ v. items_view v.now.items)) (none_by c.as_array.result c.in_default.not-Some) in
+    holds _ true refl (no_items_counted (Within g.E.RegexEngine.outcome c.args.self.now.nodes.now lists k) site word d (branch_of c.args.branch.now) c.args.bounds.least c.args.bounds.most none)
+
+pub items_counted-accepts-requires : goal.items_counted-accepts-requires
+items_counted-accepts-requires g t c κs within =
+    let nodes = c.args.self.now.nodes.now in
+    let d = view c.args.instance.now in
+    let vs = c.deref-item-items.result.now in
+    let v = c.item-item.result in
+    let found : as_array d ≡ Some (items_view vs) = grind (arith, common_steps) in
+    let less = item_depth d vs c.loop-item.item-index v (array_items d vs found) c.loop-item-test.true c.item-item.is in
+    let fewer = fewer_steps (length nodes) (depth (view v)) (depth d) 0 less in
+    (omega (arith, c.decreases, fewer), (within.0, (within.1, (c.requires.ready, (c.requires.answers, (le_refl (length nodes), c.requires.ready.end c.args.branch.now.schema c.requires.there))))))
+
+pub items_counted-loop-item-init : goal.items_counted-loop-item-init
+items_counted-loop-item-init g t c =
+    let d = view c.args.instance.now in
+    let b = branch_of c.args.branch.now in
+    let vs = c.deref-item-items.result.now in
+    let found : as_array d ≡ Some (items_view vs) = grind (arith, common_steps) in record {
+      small = omega arith;
+      counted = λ lists tests k site word h. items_start (Within g.E.RegexEngine.outcome c.args.self.now.nodes.now lists k) site word d b vs (array_items d vs found);
+    }
+
+pub items_counted-loop-item-preserved : goal.items_counted-loop-item-preserved
+items_counted-loop-item-preserved g t c =
+    let nodes = c.args.self.now.nodes.now in
+    let d = view c.args.instance.now in
+    let b = branch_of c.args.branch.now in
+    let vs = c.deref-item-items.result.now in
+    let i = c.loop-item.item-index in
+    let v = c.item-item.result in
+    let all = on_items (placed_items d) b in
+    let found : as_array d ≡ Some (items_view vs) = grind (arith, common_steps) in
+    let less = item_depth d vs i v (array_items d vs found) c.loop-item-test.true c.item-item.is in
+    let fewer = fewer_steps (length nodes) (depth (view v)) (depth d) 0 less in
+    elim c.if-branch.branch [
+      | items_counted-then-branch+else-is_past w ↦ record {
+        small = omega (arith, c.loop-item.invariant.small, w.count-is);
+        counted = λ lists tests k site word h. rw w.count-is (item_counted (Within g.E.RegexEngine.outcome nodes lists k) site word all b vs i v
+            c.loop-item-test.true c.item-item.is c.in_ok-accepts.field-0 (λ at. c.in_ok-accepts.ensures lists tests k at (omega (arith, fewer, h))) c.loop-item.count
+            (c.loop-item.invariant.counted lists tests k site word h) w.if-branch.true);
+      }
+      | items_counted-else-branch w ↦ record {
+        small = omega (arith, c.loop-item.invariant.small, w.count-is);
+        counted = λ lists tests k site word h. rw w.count-is (item_not_counted (Within g.E.RegexEngine.outcome nodes lists k) site word all b vs i v
+            c.loop-item-test.true c.item-item.is c.in_ok-accepts.field-0 (λ at. c.in_ok-accepts.ensures lists tests k at (omega (arith, fewer, h))) c.loop-item.count
+            (c.loop-item.invariant.counted lists tests k site word h) w.if-branch.false);
+      }
+    ]
+
+pub items_counted-returns-then-is_past : goal.items_counted-returns-then-is_past
+items_counted-returns-then-is_past g t c = λ lists tests k site word h.
+    let nodes = c.args.self.now.nodes.now in
+    let d = view c.args.instance.now in
+    let b = branch_of c.args.branch.now in
+    let vs = c.deref-item-items.result.now in
+    let i = c.loop-item.item-index in
+    let v = c.item-item.result in
+    let all = on_items (placed_items d) b in
+    let found : as_array d ≡ Some (items_view vs) = grind (arith, common_steps) in
+    let less = item_depth d vs i v (array_items d vs found) c.loop-item-test.true c.item-item.is in
+    let fewer = fewer_steps (length nodes) (depth (view v)) (depth d) 0 less in
+    let below = Within g.E.RegexEngine.outcome nodes lists k in
+    let least = c.args.bounds.least in
+    let most = c.args.bounds.most in
+    as_items below site word d b (items_view vs) least most (IsTrue false) found (refutes _ false refl (λ reported. absurd (item_too_many below site word all b vs i v
+    c.loop-item-test.true c.item-item.is c.in_ok-accepts.field-0 (λ at. c.in_ok-accepts.ensures lists tests k at (omega (arith, fewer, h))) c.loop-item.count
+    (c.loop-item.invariant.counted lists tests k site word h) least most c.if-branch.true (sym c.is_past.ensures ∙ c.if-is_past.true) reported)))
+
+pub items_counted-returns : goal.items_counted-returns
+items_counted-returns g t c = λ lists tests k site word h.
+    let d = view c.args.instance.now in
+    let b = branch_of c.args.branch.now in
+    let vs = c.deref-item-items.result.now in
+    let all = on_items (placed_items d) b in
+    let found : as_array d ≡ Some (items_view vs) = grind (arith, common_steps) in
+    let below = Within g.E.RegexEngine.outcome c.args.self.now.nodes.now lists k in
+    let least = c.args.bounds.least in
+    let most = c.args.bounds.most in
+    as_items below site word d b (items_view vs) least most (IsTrue c.is_between.result) found
+    (all_counted below site word all c.loop-item.count least most c.is_between.result c.is_between.ensures
+    (subst (Counted below site word all c.loop-item.count) (no_items_left below site word all b vs c.loop-item.item-index (drop_past vs c.loop-item.item-index c.loop-item-test.false))
+    (c.loop-item.invariant.counted lists tests k site word h)))
 
 -- ---- item by item
 
@@ -402,7 +941,7 @@ children_accept-returns-then-not-branch g t c = λ lists tests k site word h.
     c.in_ok-accepts.field-0 (λ at. c.in_ok-accepts.ensures lists tests k at (omega (arith, fewer, h))) c.if-not-branch.true (c.loop-branch.invariant lists tests k site word h) reported))
 
 pub found_accepts-returns-then-not-is_empty : goal.found_accepts-returns-then-not-is_empty
-found_accepts-returns-then-not-is_empty g t c = λ lists tests k location site h.
+found_accepts-returns-then-not-is_empty g t c = λ lists tests k header site h.
     let outcome = g.E.RegexEngine.outcome in
     let nodes = c.args.self.now.nodes.now in
     let below = Within outcome nodes lists k in
@@ -415,7 +954,7 @@ found_accepts-returns-then-not-is_empty g t c = λ lists tests k location site h
     let kinds = c.in_ok-kinds.kinds.items in
     refutes _ false refl (λ reported.
     let none : kinds ≡ [] = nothing_mapped kind_of kinds
-    (no_kinds (schemas_of outcome nodes) below lists location beside word r bs d site (kinds_of kinds) (targets_of c.in_ok-kinds.targets.items)
+    (no_kinds (schemas_of outcome nodes) below lists header beside word r bs d site (kinds_of kinds) (targets_of c.in_ok-kinds.targets.items)
     (c.in_ok-kinds.ensures lists tests k site h) reported) in
     absurd (not_empty_by kinds _ c.is_empty.result c.is_empty.ensures c.in_ok-kinds.kinds.ok.0 c.if-not-is_empty.true none))
 
@@ -539,7 +1078,7 @@ found_accepts-loop-target-preserved g t c = λ lists tests k site h.
     c.if-not-branch.false (c.loop-target.invariant lists tests k site h)
 
 pub found_accepts-returns-then-not-branch : goal.found_accepts-returns-then-not-branch
-found_accepts-returns-then-not-branch g t c = λ lists tests k location site h.
+found_accepts-returns-then-not-branch g t c = λ lists tests k header site h.
     let outcome = g.E.RegexEngine.outcome in
     let nodes = c.args.self.now.nodes.now in
     let below = Within outcome nodes lists k in
@@ -566,10 +1105,10 @@ found_accepts-returns-then-not-branch g t c = λ lists tests k location site h.
     refutes _ false refl (λ reported. absurd (
     stops_target below site word items c.loop-target.target-index c.target-item.result c.loop-target-test.true c.target-item.is c.in_ok-accepts.field-0 says
     c.if-not-branch.true (c.loop-target.invariant lists tests k site h)
-    (no_targets (schemas_of outcome nodes) below lists location beside word r bs d site kinds (targets_of items) found reported)))
+    (no_targets (schemas_of outcome nodes) below lists header beside word r bs d site kinds (targets_of items) found reported)))
 
 pub found_accepts-returns : goal.found_accepts-returns
-found_accepts-returns g t c = λ lists tests k location site h.
+found_accepts-returns g t c = λ lists tests k header site h.
     let outcome = g.E.RegexEngine.outcome in
     let nodes = c.args.self.now.nodes.now in
     let below = Within outcome nodes lists k in
@@ -586,12 +1125,12 @@ found_accepts-returns g t c = λ lists tests k location site h.
     (c.in_ok-kinds.ensures lists tests k site h) in
     let none : c.in_ok-kinds.kinds.items ≡ [] =
     empty_by c.in_ok-kinds.kinds.items _ c.is_empty.result c.is_empty.ensures c.in_ok-kinds.kinds.ok.0 c.if-not-is_empty.false in
-    holds _ true refl (rule_passes (schemas_of outcome nodes) below lists location beside word r bs d site kinds (targets_of items) found (ap kinds_of none)
+    holds _ true refl (rule_passes (schemas_of outcome nodes) below lists header beside word r bs d site kinds (targets_of items) found (ap kinds_of none)
     ((c.loop-target.invariant lists tests k site h).1 (rw (drop_past items c.loop-target.target-index c.loop-target-test.false) refl)))
 
 pub keyword_accepts-returns-in-Rule : goal.keyword_accepts-returns-in-Rule
 keyword_accepts-returns-in-Rule g t c = λ lists tests. IfOk-weaker c.rule_accepts.result _ _
-    (λ b p k location site h. rw c.in-Rule.is (p k location site h)) (c.rule_accepts.ensures lists tests)
+    (λ b p k header site h. rw c.in-Rule.is (p k header site h)) (c.rule_accepts.ensures lists tests)
 
 -- ---- what is found
 
@@ -648,10 +1187,9 @@ findings-returns g t c = λ lists tests k site h.
     (c.in_ok-applied.ensures lists tests ∙ ap (applied beside r bs d) c.deref-3.ensures.value)
 
 pub spans-returns : goal.spans-returns
-spans-returns g t c = λ lists tests k h.
+spans-returns g t c = λ lists tests.
     let outcome = g.E.RegexEngine.outcome in
     let nodes = c.args.self.now.nodes.now in
-    let below = Within outcome nodes lists k in
     let d = view c.args.instance.now in
     let ruled = c.args.ruled.now in
     let word = string_bytes ruled.name in
@@ -659,16 +1197,9 @@ spans-returns g t c = λ lists tests k h.
     let bs = branches_of ruled.branches.items in
     let beside = keywords_of outcome c.args.beside.now in
     let vs = c.in_ok-verdicts.verdicts.items in
-    let found = c.in_ok-tested.tested.items in
     let counts : counts_nothing r ≡ false = sym (c.counts_nothing.ensures outcome) ∙ c.if-counts_nothing.false in
-    let by_tests : targets_of found ≡ tested r bs d = c.in_ok-tested.ensures outcome ∙ ap (λ l. tested r (branches_of l) d) c.deref.ensures.value in
-    let valid : targets_of c.in_ok-spans.spans.items ≡ valid_of (tested r bs d) vs = c.in_ok-spans.ensures
-    ∙ ap (λ us. valid_of (targets_of found) us) c.deref-2.ensures.value ∙ ap (λ ts. valid_of ts vs) by_tests in
-    let by_rule : targets_of c.in_ok-applied.field-0.items ≡ applied beside r bs d vs = c.in_ok-applied.ensures lists tests ∙ ap (applied beside r bs d) c.deref-3.ensures.value in
-    let both : targets_of c.append.new.self.items ≡ valid_of (tested r bs d) vs ++ applied beside r bs d vs = ap targets_of c.in_ok-append.ensures.items
-    ∙ map-append target_of c.in_ok-spans.spans.items c.in_ok-applied.field-0.items ∙ ap (λ ts. ts ++ targets_of c.in_ok-applied.field-0.items) valid
-    ∙ ap (λ us. valid_of (tested r bs d) vs ++ us) by_rule in
-    some_spanned (schemas_of outcome nodes) below beside word r bs d counts vs (targets_of c.append.new.self.items) (c.in_ok-verdicts.ensures lists tests k root_site word h) both
+    IfOk-weaker c.reached.result _ _ (λ found same k h. some_spanned (schemas_of outcome nodes) (Within outcome nodes lists k) beside word r bs d counts vs (targets_of found.items)
+    (c.in_ok-verdicts.ensures lists tests k root_site word h) (same ∙ ap (reached beside r bs d) c.deref.ensures.value)) (c.reached.ensures lists tests)
 
 -- ---- what is left
 

@@ -102,7 +102,7 @@ module _ (Fine : ℕ → Data → Type 0) (below other : Below)
       verdicts_too word (tested r bs d) vs fine.0 v,
       targets_too (spans beside r bs d vs) (spans_hold Fine d beside r bs vs fine.0 (fine.1 vs)) p,
     )
-    keyword_too beside (string_keyword asserted) fine p = p
+    keyword_too beside (string_keyword word asserted) fine p = p
     keyword_too beside (malformed path why) fine p = p
 
     keywords_too : (beside ks : List Keyword) → AllByRecursion (IsKeywordFine Fine d beside) ks
@@ -136,7 +136,7 @@ module _ (Fine : ℕ → Data → Type 0) (below other : Below)
       keyword_too (Evaluates schemas below s (length schemas)) (Evaluates schemas other s (length schemas))
           (evaluates_too s (length schemas)) d s beside (rule word r bs) fine p,
     )
-    beside_too beside d s (string_keyword asserted) fine p = p
+    beside_too beside d s (string_keyword word asserted) fine p = p
     beside_too beside d s (malformed path why) fine p = p
 
     pub besides_too : (beside : List Keyword) (d : Data) (s : Segment) (ks : List Keyword) → AllByRecursion (IsKeywordFine Fine d beside) ks
