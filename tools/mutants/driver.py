@@ -8,8 +8,8 @@
 
 A stored change is one of tools/mutants/CRATE.mutants. All changes stand in one copy of the sources, each behind a
 switch, so that each program is built once, without a proof. A section notices a change where the program with it does
-not answer each row as expected. No rows are about `neldrafi_schema`: each test of `neldrafi_test_schemas` is a section,
-and notices a change if it fails. The table is tools/mutants/noticed.tsv: a change, how many sections notice it, with a
+not answer each row as expected. No rows are about `neldrafi_position` and `neldrafi_schema`: each test of the first and
+of `neldrafi_test_schemas` is a section, and notices a change if it fails. The table is tools/mutants/noticed.tsv: a change, how many sections notice it, with a
 `+` where not all were asked, and their names, the quick ones first. `--rules` prints the changes that no row notices.
 
 It wants the rows of `python3 tools/rows --made` for all other crates. Not part of the gate.

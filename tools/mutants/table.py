@@ -14,7 +14,7 @@ import unproved
 
 PROGRAMS = ("strkw_test_grammars", "strkw_test_rows")
 # The tests of crates that no program of rows is built over.
-TESTS = ("neldrafi_test_schemas",)
+TESTS = ("neldrafi_position", "neldrafi_test_schemas")
 SIDE_BY_SIDE = 2
 # A changed program may run for ever, or take all memory.
 LEAST_SECONDS, TIMES_AS_LONG = 2, 10
@@ -86,7 +86,7 @@ def sections(paths):
 def programs_about(crates):
     """The programs of rows that are built over any of the crates, and the tests if one of these is in none."""
     uses = unproved.uses_of(unproved.TOP / "crates")
-    below = {program: {*unproved.below(program, uses)} for program in PROGRAMS + TESTS}
+    below = {program: {*unproved.below(program, uses), program} for program in PROGRAMS + TESTS}
     others = {*crates} - set().union(*(below[program] for program in PROGRAMS))
     asked = [program for program in PROGRAMS if below[program] & {*crates}]
     return asked + [program for program in TESTS if below[program] & others]

@@ -1,0 +1,4 @@
+pub mod Parts
+pub mod Places
+pub mod Positions
+pub mod machine

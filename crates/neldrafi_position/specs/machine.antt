@@ -1,0 +1,3 @@
+-- What only the code's own contracts name.
+pub mod Walks
+pub mod Tokens
