@@ -78,7 +78,7 @@ KINDS = {
     "`strkw_csv`": Kind("strkw_csv", ("FILE",), {"draft": 7, "columns": SCHEMAS}, record, b"name,born,site\n"),
     "`strkw_config`": Kind("strkw_config", ("FILE",), {"draft": 7, "places": PLACES},
                            lambda number: person(number) + b",", b'{"people":[', person(0) + b"]}\n"),
-    "`neldrafi check`": Kind("neldrafi", ("check", "--draft", "7", "FILE"), SCHEMAS["site"],
+    "`neldrafi check`": Kind("neldrafi", ("check", "--as", "text", "--draft", "7", "FILE"), SCHEMAS["site"],
                              lambda number: site(number) + b"\n"),
 }
 CRATES = tuple(kind.crate for kind in KINDS.values())

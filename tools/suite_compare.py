@@ -24,8 +24,9 @@ PROGRAM = Path(__file__).resolve().parent.parent / "crates" / "neldrafi" / "out"
 DRAFTS = {"draft4": "4", "draft6": "6", "draft7": "7", "draft2019-09": "2019-09", "draft2020-12": "2020-12"}
 ANNOTATED = {"draft2019-09/format.json", "draft2020-12/format.json"}
 KEYWORDS = {"format", "minLength", "maxLength", "pattern", "contentEncoding", "contentMediaType", "contentSchema"}
-# Schema objects with another answer: a limit that is written 2.0 is refused.
-KNOWN = {'{"maxLength": 2.0}', '{"minLength": 2.0}'}
+# Schema objects with another answer in optional cases of draft 7: the content keywords only annotate.
+KNOWN = {'{"contentMediaType": "application/json"}', '{"contentEncoding": "base64"}',
+         '{"contentMediaType": "application/json", "contentEncoding": "base64"}'}
 
 
 def groups_in(suite):
@@ -51,8 +52,7 @@ def verdicts(draft, schema, tests):
         json.dump(schema, file)
         file.flush()
         lines = "".join(json.dumps(test["data"]) + "\n" for test in tests)
-        run = subprocess.run([PROGRAM, "check", "--json", "--ignore-unknown-formats", "--output", "json", "--draft",
-                              draft,
+        run = subprocess.run([PROGRAM, "check", "--as", "jsonl", "--allow-unknown", "--output", "json", "--draft", draft,
                               file.name], input=lines, capture_output=True, text=True)
     if run.returncode > 1:
         return [run.stderr.strip()] * len(tests)

@@ -7,7 +7,7 @@ _neldrafi_options() {
     formats | requests) echo --output --help ;;
     csv) echo --color --delimiter --keep-going --max-errors --no-header --output --progress --quiet --report --summary --help ;;
     json) echo --color --max-errors --output --quiet --help ;;
-    check) echo --color --draft --ignore --ignore-unknown-formats --json --max-errors --output --quiet --help ;;
+    check) echo --allow-unknown --as --color --document --draft --formats --max-errors --name --output --quiet --help ;;
     explain) echo --draft --ignore --output --help ;;
     plan) echo --delimiter --draft --no-header --output --records --help ;;
     *) echo --help --version ;;
@@ -30,7 +30,11 @@ _neldrafi() {
         words='text json'
     elif [ "$before" = --color ]; then
         words='auto always never'
-    elif [[ $before == --@(delimiter|max-errors|records|ignore) ]]; then
+    elif [ "$before" = --as ]; then
+        words='json jsonl text'
+    elif [ "$before" = --formats ]; then
+        words='check annotate'
+    elif [[ $before == --@(delimiter|document|max-errors|name|records|ignore) ]]; then
         words=
     elif [[ $word == -* ]]; then
         words=$(_neldrafi_options "$subcommand")

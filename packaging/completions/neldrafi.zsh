@@ -25,7 +25,7 @@ _neldrafi() {
             'requests:answer requests, one a line'
             'csv:check CSV files by a plan'
             'json:check JSON documents by a plan'
-            'check:check each line of files by one schema object'
+            'check:check files by a JSON Schema'
             'explain:say in words what a schema object checks'
             'plan:propose a plan for a CSV file'
         )
@@ -46,8 +46,10 @@ _neldrafi() {
     explain) _arguments $help $draft $ignore $output '*:file:_files' ;;
     plan) _arguments $help $delimiter $draft $headless $output '--records[look at the first N records]:N:' '*:file:_files' ;;
     check)
-        _arguments $help $quiet $color $draft $most $ignore $output '--json[each line is a JSON value]' \
-            '--ignore-unknown-formats[let every text pass a format that is not known]' '*:file:_files'
+        _arguments $help $quiet $color $draft $most $output '--allow-unknown[ignore unknown keywords and formats]' \
+            '--as[what each file is]:kind:(json jsonl text)' '*--document[a further document]:URI=FILE:' \
+            '--formats[whether formats are checked]:how:(check annotate)' '--name[the name of standard input]:name:' \
+            '*:file:_files'
         ;;
     esac
 }

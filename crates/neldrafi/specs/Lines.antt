@@ -51,16 +51,6 @@ field_form file = record {
   broken = λ line column. line_of (field_broken file line column);
 }
 
--- an error of a line of a file
-abbrev pub line_error : List ℕ → ℕ → Report → Data
-line_error file line r =
-    object (member (codes "file") (string file)
-    (member (codes "instance") (string r.instance)
-    (member (codes "keyword") (string r.schema_path)
-    (member (codes "kind") (string (kind_name r.kind))
-    (member (codes "line") (number (unsigned line))
-    (member (codes "message") (string (text_of r)) no_members))))))
-
 -- an error of the value at a place of a document
 abbrev pub place_error : List ℕ → List ℕ → Report → Data
 place_error file place r =

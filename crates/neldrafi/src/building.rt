@@ -24,6 +24,13 @@ pub(crate) enum Takes {
     Values(&'static str),
     /// A number of this name, from 1.
     Number(&'static str),
+    /// One of some words, where the option is given.
+    OneOfSome {
+        /// The name of the value.
+        value: &'static str,
+        /// The words.
+        words: &'static [&'static str],
+    },
     /// One of some words.
     OneOf {
         /// The name of the value.
@@ -57,6 +64,7 @@ impl Takes {
                 let numbers = ValueParser::unsigned(1, u64::MAX);
                 option.value_name(value).value_parser(numbers)
             }
+            Takes::OneOfSome { value, words } => option.value_name(value).value_parser(words),
             Takes::OneOf {
                 value,
                 words,

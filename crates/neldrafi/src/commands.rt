@@ -33,7 +33,7 @@ Examples:
   neldrafi requests requests.jsonl
   neldrafi csv plan.json people.csv
   neldrafi json plan.json server.json
-  neldrafi check schema.json names.txt
+  neldrafi check schema.json server.json events.jsonl
   neldrafi explain schema.json
   neldrafi plan people.csv
 

@@ -74,12 +74,11 @@ fn tell_fault(rt: &HostRuntime, subject: Subject<'_>, wanted: Wanted, fault: &Fa
     }
 }
 
-// What the fault that ended the check of a file comes to, which is told. What comes is nothing where the output is
-// closed. The errors are those that keep the files behind from being checked.
-fn outcome_of_fault(
+/// What the fault that ended the check of a file comes to, which is told. What comes is nothing if the output is
+/// closed. The errors are those that keep the files behind from being checked.
+pub(crate) fn outcome_of_fault(
     rt: &HostRuntime,
-    path: &str,
-    label: &str,
+    subject: Subject<'_>,
     wanted: Wanted,
     fault: Fault,
 ) -> Result<Option<Outcome>, Fault> {
@@ -89,10 +88,6 @@ fn outcome_of_fault(
     if fault.ends_all() {
         return Err(fault);
     }
-    let subject = Subject {
-        file: Some(path),
-        label,
-    };
     Ok(Some(tell_fault(rt, subject, wanted, &fault)))
 }
 
@@ -107,7 +102,13 @@ fn check_and_tell<C: FileCheck>(
     let label = label_of(rt.alloc(), path, count)?;
     match check_file(rt, path, &label, wanted, check) {
         Ok(outcome) => Ok(Some(outcome)),
-        Err(fault) => outcome_of_fault(rt, path, &label, wanted, fault),
+        Err(fault) => {
+            let subject = Subject {
+                file: Some(path),
+                label: &label,
+            };
+            outcome_of_fault(rt, subject, wanted, fault)
+        }
     }
 }
 

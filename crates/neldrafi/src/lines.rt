@@ -4,13 +4,13 @@ ghost use Rattle.std.specs.Prelude.{◌≡◌, ◌++◌, IfOk, OnOk, string_byte
 ghost use Rattle.strkw_report.specs.Failures.{kind_failed};
 ghost use Rattle.strkw_report.specs.Kinds.{text_of};
 ghost use Rattle.strkw_plan.specs.Found.{report_found};
-ghost use Rattle.neldrafi.specs.Lines.{document_form, field_broken, field_error, field_form, kind_name, line_error, line_of, place_error, place_told};
+ghost use Rattle.neldrafi.specs.Lines.{document_form, field_broken, field_error, field_form, kind_name, line_of, place_error, place_told};
 
-use crate::objects::{Datum, push_object};
 use crate::telling::Subject;
+use neldrafi_check::{Datum, push_object};
 use std::alloc::{AllocError, Global};
 use strkw_document::PlaceForm;
-use strkw_plan::{FoundError, MessageForm};
+use strkw_plan::FoundError;
 use strkw_report::Failure;
 use strkw_table::FieldForm;
 
@@ -107,31 +107,6 @@ fn push_broken<'x>(
         ("kind", Datum::Text("notUtf8")),
         ("line", Datum::Number(line)),
         ("message", Datum::Text("not UTF-8")),
-    ];
-    push_object(alloc, &members, out)
-}
-
-// Appends a line about an error of a line, of which this is said.
-fn push_line<'x>(
-    alloc: Global,
-    file: &'x str,
-    line: u64,
-    error: &'x FoundError<'x>,
-    said: &'x Said,
-    out: &mut String,
-) -> Result<(), AllocError>
-    requires keyword { string_bytes said.now.keyword ≡ (report_found error.now).schema_path }
-    requires message { string_bytes said.now.message ≡ text_of (report_found error.now) }
-    ensures { OnOk result (string_bytes out.new ≡ string_bytes out.old
-        ++ line_of (line_error file.now line (report_found error.now))) }
-{
-    let members = [
-        ("file", Datum::Text(file)),
-        ("instance", Datum::Text(error.text)),
-        ("keyword", Datum::Text(&said.keyword)),
-        ("kind", Datum::Text(kind_name(&error.failure))),
-        ("line", Datum::Number(line)),
-        ("message", Datum::Text(&said.message)),
     ];
     push_object(alloc, &members, out)
 }
@@ -251,29 +226,5 @@ impl PlaceForm for JsonLines<'_> {
         out: &mut String,
     ) -> Result<(), AllocError> {
         push_told(alloc, self.file, "notAString", "not a string", place, out)
-    }
-}
-
-/// The form of JSON, of the errors of one line.
-#[derive(Clone, Copy)]
-pub(crate) struct JsonLine<'a> {
-    /// The path of the file.
-    pub file: &'a str,
-    /// The number of the line, from 1.
-    pub line: u64,
-}
-
-impl MessageForm for JsonLine<'_> {
-    ghost words_of = { λ form r. line_of (line_error form.file.now form.line r) };
-
-    #[tactic(auto, using(crate::proofs::LineLemmas::line_some))]
-    fn push(
-        &self,
-        alloc: Global,
-        error: &FoundError<'_>,
-        out: &mut String,
-    ) -> Result<(), AllocError> {
-        let said = Said::of(alloc, error)?;
-        push_line(alloc, self.file, self.line, error, &said, out)
     }
 }

@@ -7,8 +7,8 @@ ghost use Rattle.strkw_object.specs.Compiled.{keywords_demands};
 
 use crate::drafts::draft_number;
 use crate::faults::{Fault, Reach};
-use crate::objects::{Datum, object};
 use crate::plans::set_value;
+use neldrafi_check::{Datum, object};
 use serde_json::Value;
 use std::alloc::{AllocError, Global};
 use strkw_ecma::why_refused;
@@ -223,8 +223,8 @@ fn schema_fault(alloc: Global, fault: &PlanFault) -> Fault {
     }
 }
 
-// Why a keyword is refused.
-fn why_of(alloc: Global, refusal: &CompileError) -> Result<String, AllocError> {
+/// Why a keyword is refused.
+pub(crate) fn why_of(alloc: Global, refusal: &CompileError) -> Result<String, AllocError> {
     match &refusal.kind {
         CompileErrorKind::UnknownFormat { name, .. } => {
             format!(in alloc; "unknown format \"{name}\"")

@@ -2,10 +2,10 @@
 
 use crate::errors::{FieldError, TakesErrors};
 use crate::faults::Fault;
-use crate::objects::{Datum, push_object};
 use crate::options::OutputForm;
 use crate::output::{FaultyWrite, Output};
 use crate::telling::Subject;
+use neldrafi_check::{Datum, push_object};
 use std::alloc::{AllocError, Global};
 use std::collections::BTreeMap;
 use std::io::Write;

@@ -1,7 +1,7 @@
 //! What is told on standard error: faults, how far a check is, and bad requests; each on one line.
 
-use crate::objects::{Datum, object};
 use crate::options::OutputForm;
+use neldrafi_check::{Datum, object};
 use serde_json::Value;
 use std::alloc::{AllocError, Global};
 use std::fmt::Display;

@@ -1,62 +1,79 @@
-//! `neldrafi check`: checks each line of files by one schema object.
+//! `neldrafi check`: checks files by a JSON Schema.
 
-ghost use Rattle.strkw_keywords.specs.Demands.{IsInUse};
-ghost use Rattle.strkw_keywords.specs.Handed.{lists_of};
-ghost use Rattle.strkw_object.specs.Compiled.{keywords_demands};
-ghost use Rattle.std.specs.Prelude.{decimal};
+ghost use Rattle.neldrafi_schema.specs.machine.Words.{IsCompiled, lists_in};
 
 use crate::building::{Argument, Takes, subcommand};
-use crate::faults::Fault;
-use crate::files::{FileCheck, check_files};
-use crate::inputs::{InputFault, InputFile, Lines};
-use crate::lines::JsonLine;
+use crate::documents::{
+    FurtherDocument, borrowed, fault_of as refusal_fault, read_documents, require_known,
+};
+use crate::faults::{Fault, Reach};
+use crate::file_kinds::{FILE_KIND_NAMES, FileKind};
+use crate::files::outcome_of_fault;
+use crate::inputs::{InputFault, InputFile, STANDARD_INPUT};
 use crate::options::{
-    COLOR, DRAFT, FILES, IGNORE, MAX_ERRORS, OUTPUT, OutputForm, QUIET, Wanted, draft_of,
+    COLOR, DRAFT, FILES, MAX_ERRORS, OUTPUT, OutputForm, QUIET, Wanted, draft_of,
 };
 use crate::outcome::Outcome;
-use crate::output::{Gathered, Output};
-use crate::schemas::{compile, read_schema, require_keywords};
+use crate::output::{FaultyWrite, Output};
+use crate::schemas::read_schema;
 use crate::telling::Subject;
 use clap::{ArgMatches, Command};
-use itoa::Buffer;
+use neldrafi_check::{
+    CheckFault, ErrorForm, JsonObjects, LineKind, Shown, TextLines, check_document, check_lines,
+};
+use neldrafi_schema::{Config, Schema};
 use serde_json::Value;
 use std::alloc::{AllocError, Global};
 use strkw_companions::companions_of;
 use strkw_ecma::EcmaPatterns;
-use strkw_keywords::{Checks, NamedFormat};
-use strkw_object::StringKeywords;
+use strkw_keywords::NamedFormat;
 use strkw_pattern::RegexEngine;
-use strkw_plan::{InstancePlace, MessageLine, Rules, push_messages_as, push_shown};
-use strkw_report::{Draft, Node};
+use strkw_report::Draft;
 use strkw_shells::checks_of;
 
 /// The name of the subcommand.
 pub(crate) const NAME: &str = "check";
 
-// The argument for the file of the schema object.
+// The argument for the file of the schema.
 const SCHEMA: &str = "SCHEMA";
 
-// The option for lines of JSON.
-const JSON: &str = "json";
+// The option for what files are.
+const AS: &str = "as";
 
-// The option for formats that are not known.
-const IGNORE_UNKNOWN_FORMATS: &str = "ignore-unknown-formats";
+// The option for the name of standard input.
+const STDIN_NAME: &str = "name";
+
+// The option for further documents.
+const DOCUMENT: &str = "document";
+
+// The option for which formats are checked, and its words.
+const FORMATS: &str = "formats";
+
+const CHECK: &str = "check";
+
+const ANNOTATE: &str = "annotate";
+
+const FORMAT_WORDS: &[&str] = &[CHECK, ANNOTATE];
+
+// The option for names that are no keywords.
+const ALLOW_UNKNOWN: &str = "allow-unknown";
 
 // What it does.
-const ABOUT: &str = "Checks each line of files by one schema object";
+const ABOUT: &str = "Checks files by a JSON Schema";
 
 // What its help ends with.
 const AFTER_HELP: &str = "\
-An error is a line `LINE: KEYWORD: TEXT`, and of several files it begins with the name of
-the file. With `--output json` it is an object with `file`, `line`, `keyword`, `kind`,
-`message` and `instance`. A keyword by which nothing is checked is refused, unless
-`--ignore` names it.
+The schema is of the draft that its `$schema` names, or else of `--draft`. A file is JSON;
+if its name ends in `.jsonl` or `.ndjson`, each of its lines is; if it ends in `.txt`, each
+line is a string. An error is a line `FILE:LINE:COLUMN: LOCATION: TEXT`. LOCATION is a JSON
+pointer, and is left out for the root. With `--output json` it is an object with `file`,
+`line`, `position`, `location`, `keyword`, `kind`, `message` and `instance`.
 
 Examples:
-  neldrafi check schema.json names.txt
-  neldrafi check --ignore type --ignore x-unit schema.json names.txt
-  neldrafi check --draft 7 schema.json < names.txt
-  neldrafi check --json schema.json values.jsonl";
+  neldrafi check schema.json server.json
+  neldrafi check --output json schema.json events.jsonl
+  neldrafi check --as jsonl schema.json < events
+  neldrafi check --document https://example.com/port=port.json schema.json server.json";
 
 // What it takes.
 const ARGUMENTS: &[Argument] = &[
@@ -64,25 +81,49 @@ const ARGUMENTS: &[Argument] = &[
         name: SCHEMA,
         takes: Takes::Word,
         conflicts: &[],
-        help: "The file of the schema object",
+        help: "The file of the schema",
     },
     FILES,
-    COLOR,
-    DRAFT,
-    IGNORE,
     Argument {
-        name: IGNORE_UNKNOWN_FORMATS,
+        name: ALLOW_UNKNOWN,
         takes: Takes::Nothing,
         conflicts: &[],
-        help: "Let every text pass a format that is not known",
+        help: "Ignore keywords and formats in the schema that are not known; `x-..` is always ignored",
     },
     Argument {
-        name: JSON,
-        takes: Takes::Nothing,
+        name: AS,
+        takes: Takes::OneOfSome {
+            value: "KIND",
+            words: FILE_KIND_NAMES,
+        },
         conflicts: &[],
-        help: "Read each line as a JSON value; one that is no string is valid",
+        help: "What each file is, whatever its name",
+    },
+    COLOR,
+    Argument {
+        name: DOCUMENT,
+        takes: Takes::Values("URI=FILE"),
+        conflicts: &[],
+        help: "A further document, to which references lead by its URI",
+    },
+    DRAFT,
+    Argument {
+        name: FORMATS,
+        takes: Takes::OneOf {
+            value: "HOW",
+            words: FORMAT_WORDS,
+            default: CHECK,
+        },
+        conflicts: &[],
+        help: "Whether `format` is checked in every draft, or as the draft has it",
     },
     MAX_ERRORS,
+    Argument {
+        name: STDIN_NAME,
+        takes: Takes::Value("NAME"),
+        conflicts: &[],
+        help: "The name of standard input, in messages and for what it is",
+    },
     OUTPUT,
     QUIET,
 ];
@@ -92,152 +133,126 @@ pub(crate) fn command<'a>(alloc: Global) -> Result<Command<'a>, AllocError> {
     subcommand(alloc, NAME, ABOUT, AFTER_HELP, ARGUMENTS)
 }
 
-// Where a text is: on the line of this number.
-#[derive(Clone, Copy)]
-struct LinePlace {
-    line: u64,
-}
-
-impl InstancePlace for LinePlace {
-    ghost name = { λ place. decimal place.line };
-
-    fn push_shown(&self, out: &mut String) -> Result<(), AllocError> {
-        let mut digits = Buffer::new();
-        push_shown(digits.format(self.line), out)
-    }
-}
-
-// Checks each line of a file by a schema object.
+// What files are checked by, and how.
 #[derive(Drop)]
-struct LineCheck<'a> {
-    schema: &'a Value,
-    draft: Draft,
-    rules: Rules<'a, EcmaPatterns>,
-    reads_json: bool,
-    form: OutputForm,
+struct SchemaCheck<'a, E: RegexEngine> {
+    schema: &'a Schema<'a, E>,
+    // What each file is, if its name does not tell.
+    kind: Option<FileKind>,
+    // The name of standard input.
+    stdin_name: &'a str,
+    wanted: Wanted,
 }
 
-// A line of a file, as it is checked.
-#[derive(Clone, Copy)]
-struct FileLine<'a> {
-    // The path of the file.
-    file: &'a str,
-    // The number of the line, from 1.
-    number: u64,
-    // Its text.
-    text: &'a str,
-}
-
-impl FileLine<'_> {
-    // The JSON value that its text is.
-    fn value(self, alloc: Global) -> Result<Value, Fault> {
-        match Value::from_str(alloc, self.text) {
-            Ok(value) => Ok(value),
-            Err(error) if error.is_memory() => Err(Fault::Memory),
-            Err(error) => Err(Fault::Input(InputFault::NotJson {
-                line: self.number,
-                error,
-            })),
+impl<E: RegexEngine> SchemaCheck<'_, E> {
+    // The name of the file of a path in messages.
+    fn name_of<'x>(&'x self, path: &'x str) -> &'x str {
+        if path == STANDARD_INPUT {
+            self.stdin_name
+        } else {
+            path
         }
     }
-}
 
-impl LineCheck<'_> {
-    // Appends the messages about the instance on a line, and answers how many they are.
-    fn push<E: RegexEngine, N: Node>(
+    // Writes the errors of a file of this kind in a form.
+    fn check_as<F: ErrorForm>(
         &self,
         alloc: Global,
-        keywords: &StringKeywords<E>,
-        checks: &Checks<'_>,
-        at: FileLine<'_>,
-        instance: &N,
-        out: &mut String,
-    ) -> Result<u64, AllocError>
-        requires { IsInUse (keywords_demands E.outcome keywords.now)
-            (lists_of admits accepts is_encoding decoding checks.now) }
-    {
-        let (file, line) = (at.file, at.number);
-        match self.form {
-            OutputForm::Text => {
-                let place = LinePlace { line };
-                let form = MessageLine { place: &place };
-                push_messages_as(alloc, keywords, checks, &form, instance, out)
-            }
-            OutputForm::Json => {
-                let form = JsonLine { file, line };
-                push_messages_as(alloc, keywords, checks, &form, instance, out)
-            }
-        }
-    }
-
-    // Appends the messages about a line, and answers how many they are.
-    fn check_line<E: RegexEngine>(
-        &self,
-        alloc: Global,
-        keywords: &StringKeywords<E>,
-        checks: &Checks<'_>,
-        at: FileLine<'_>,
-        out: &mut String,
-    ) -> Result<u64, Fault>
-        requires { IsInUse (keywords_demands E.outcome keywords.now)
-            (lists_of admits accepts is_encoding decoding checks.now) }
-    {
-        if !self.reads_json {
-            return Ok(self.push(alloc, keywords, checks, at, &at.text, out)?);
-        }
-        let value = at.value(alloc)?;
-        let pushed = self.push(alloc, keywords, checks, at, &value, out);
-        drop(value);
-        Ok(pushed?)
-    }
-
-    // Gathers and writes the messages about the lines of a file, and answers how many they are.
-    fn check_lines<E: RegexEngine>(
-        &self,
-        alloc: Global,
-        keywords: &StringKeywords<E>,
-        checks: &Checks<'_>,
-        file: &str,
-        lines: &mut Lines,
-        messages: &mut Gathered<'_, '_>,
-    ) -> Result<u64, Fault>
-        requires { IsInUse (keywords_demands E.outcome keywords.now)
-            (lists_of admits accepts is_encoding decoding checks.now) }
-    {
-        let mut count = 0u64;
-        for _ in 0..u64::MAX {
-            let Some(line) = lines.next_line()? else {
-                return Ok(count);
-            };
-            let (number, text) = (line.number, line.text);
-            let at = FileLine { file, number, text };
-            let more = self.check_line(alloc, keywords, checks, at, &mut messages.text)?;
-            count = count.checked_add(more).ok_or(InputFault::TooLong)?;
-            messages.write_some(lines.is_drained())?;
-        }
-        Err(Fault::Input(InputFault::TooLong))
-    }
-}
-
-impl FileCheck for LineCheck<'_> {
-    fn check(
-        &mut self,
-        rt: &HostRuntime,
-        mut file: InputFile,
-        subject: Subject<'_>,
+        kind: FileKind,
+        file: InputFile,
+        form: &F,
         output: &mut Output<'_>,
-    ) -> Result<u64, Fault> {
-        if self.reads_json {
+    ) -> Result<u64, Fault>
+        requires { IsCompiled E.outcome (lists_in admits accepts is_encoding decoding
+            self.now.schema.now) self.now.schema.now }
+    {
+        let checked = match kind {
+            FileKind::Json => check_document(alloc, self.schema, file, form, output),
+            FileKind::JsonLines => {
+                check_lines(alloc, self.schema, LineKind::Json, file, form, output)
+            }
+            FileKind::Text => check_lines(alloc, self.schema, LineKind::Text, file, form, output),
+        };
+        match checked {
+            Ok(errors) => Ok(errors),
+            Err(fault) => Err(fault_of(alloc, fault, output)),
+        }
+    }
+
+    // Opens a file, writes its errors, and answers how many there are.
+    fn check_file(
+        &self,
+        rt: &HostRuntime,
+        path: &str,
+        output: &mut Output<'_>,
+    ) -> Result<u64, Fault>
+        requires { IsCompiled E.outcome (lists_in admits accepts is_encoding decoding
+            self.now.schema.now) self.now.schema.now }
+    {
+        let mut file = InputFile::open(rt, path)?;
+        let name = self.name_of(path);
+        let kind = self.kind.unwrap_or(FileKind::of_name(name));
+        if kind != FileKind::Text {
             file.skip_mark();
         }
         let alloc = rt.alloc();
-        let keywords = compile(alloc, &self.rules, self.draft, self.schema)?;
-        let mut lines = Lines::new(alloc, file)?;
-        let mut messages = Gathered::new(alloc, output);
-        let (name, checks) = (subject.file.unwrap_or(""), &self.rules.checks);
-        let checked = self.check_lines(alloc, &keywords, checks, name, &mut lines, &mut messages);
-        // The messages before a fault stay written.
-        messages.end(checked)
+        match self.wanted.form {
+            OutputForm::Text => {
+                self.check_as(alloc, kind, file, &TextLines { file: name }, output)
+            }
+            OutputForm::Json => {
+                self.check_as(alloc, kind, file, &JsonObjects { file: name }, output)
+            }
+        }
+    }
+
+    // Checks a file, and tells of its fault. What comes is nothing if the output is closed. The errors are those that
+    // keep the files behind from being checked.
+    fn check_and_tell(&self, rt: &HostRuntime, path: &str) -> Result<Option<Outcome>, Fault>
+        requires { IsCompiled E.outcome (lists_in admits accepts is_encoding decoding
+            self.now.schema.now) self.now.schema.now }
+    {
+        let name = self.name_of(path);
+        let shown = Shown(name);
+        let label = format!(in rt.alloc(); "{shown}: ")?;
+        // Each line names its file itself.
+        let mut output = Output::new(rt, "", self.wanted);
+        match self.check_file(rt, path, &mut output) {
+            Ok(count) => Ok(Some(Outcome::of_errors(count))),
+            Err(fault) => {
+                let subject = Subject {
+                    file: Some(name),
+                    label: &label,
+                };
+                outcome_of_fault(rt, subject, self.wanted, fault)
+            }
+        }
+    }
+
+    // Checks each of the files, and tells of their faults. What comes is the worst that a file came to.
+    fn check_each(&self, rt: &HostRuntime, paths: &[&str]) -> Result<Outcome, Fault>
+        requires { IsCompiled E.outcome (lists_in admits accepts is_encoding decoding
+            self.now.schema.now) self.now.schema.now }
+    {
+        let mut outcome = Outcome::AllValid;
+        for path in paths {
+            let Some(one) = self.check_and_tell(rt, path)? else {
+                // A line was to be written, so there is an error.
+                return Ok(outcome.max(Outcome::Errors));
+            };
+            outcome = outcome.max(one);
+        }
+        Ok(outcome)
+    }
+}
+
+// The fault of a check that wrote to this output.
+fn fault_of(alloc: Global, fault: CheckFault, output: &Output<'_>) -> Fault {
+    match fault {
+        CheckFault::Write => output.fault(),
+        CheckFault::Memory => Fault::Memory,
+        CheckFault::Unread(error) => Fault::Input(InputFault::Unread(error)),
+        _ => Fault::with_words(Reach::File, format!(in alloc; "{fault}")),
     }
 }
 
@@ -245,50 +260,62 @@ impl FileCheck for LineCheck<'_> {
 pub(crate) fn run(rt: &HostRuntime, matches: &ArgMatches<'_>) -> Result<Outcome, Fault> {
     let path = matches.get_str(SCHEMA).unwrap_or("");
     let schema = read_schema(rt, path)?;
-    run_by(rt, matches, &schema)
+    let draft = draft_of(matches);
+    if !matches.get_flag(ALLOW_UNKNOWN) {
+        require_known(rt.alloc(), draft, &schema)?;
+    }
+    let further = read_documents(rt, matches.get_strs(DOCUMENT).unwrap_or(&[]))?;
+    run_by(rt, matches, draft, &schema, &further)
 }
 
-// Checks the files by a schema.
-fn run_by(rt: &HostRuntime, matches: &ArgMatches<'_>, schema: &Value) -> Result<Outcome, Fault> {
-    let draft = draft_of(matches);
-    require_keywords(
-        rt.alloc(),
-        draft,
-        matches.get_strs(IGNORE.name).unwrap_or(&[]),
-        schema,
-    )?;
+// Checks the files by a schema, with further documents.
+fn run_by(
+    rt: &HostRuntime,
+    matches: &ArgMatches<'_>,
+    draft: Draft,
+    schema: &Value,
+    further: &[FurtherDocument],
+) -> Result<Outcome, Fault> {
     let mut formats = Vec::new(rt.alloc());
-    for companion in companions_of(draft) {
+    for companion in companions_of(Draft::Draft202012) {
         let name = String::from_str(rt.alloc(), companion.as_str())?;
         let check = Box::new(rt.alloc(), *companion)?;
         formats.push(NamedFormat { name, check })?;
     }
-    check_by(rt, matches, schema, &formats)
+    let documents = borrowed(rt.alloc(), further)?;
+    let config = Config {
+        draft: Some(draft),
+        validate_formats: match matches.get_str(FORMATS) {
+            Some(ANNOTATE) => None,
+            _ => Some(true),
+        },
+        ignore_unknown_formats: matches.get_flag(ALLOW_UNKNOWN),
+        checks: checks_of(&formats),
+        documents: &documents,
+        builder: &EcmaPatterns,
+    };
+    check_by(rt, matches, schema, &config)
 }
 
-// Checks the files by a schema and the checks of these formats.
+// Checks the files by a schema that is compiled under this.
 fn check_by(
     rt: &HostRuntime,
     matches: &ArgMatches<'_>,
     schema: &Value,
-    formats: &[NamedFormat],
+    config: &Config<'_, EcmaPatterns>,
 ) -> Result<Outcome, Fault> {
-    let mut rules = Rules::new(&EcmaPatterns);
-    rules.checks = checks_of(formats);
-    rules.options.ignore_unknown_formats = matches.get_flag(IGNORE_UNKNOWN_FORMATS);
-    let mut check = LineCheck {
-        schema,
-        draft: draft_of(matches),
-        rules,
-        reads_json: matches.get_flag(JSON),
-        form: OutputForm::of(matches),
+    let compiled = match Schema::compile(rt.alloc(), schema, config) {
+        Ok(compiled) => compiled,
+        Err(refusal) => return Err(refusal_fault(rt.alloc(), refusal)),
     };
-    // So that a schema that is refused is told of before any file.
-    drop(compile(rt.alloc(), &check.rules, check.draft, schema)?);
-    check_files(
+    let check = SchemaCheck {
+        schema: &compiled,
+        kind: matches.get_str(AS).and_then(FileKind::named),
+        stdin_name: matches.get_str(STDIN_NAME).unwrap_or(STANDARD_INPUT),
+        wanted: Wanted::of(rt, matches),
+    };
+    check.check_each(
         rt,
-        matches.get_strs(FILES.name),
-        Wanted::of(rt, matches),
-        &mut check,
+        matches.get_strs(FILES.name).unwrap_or(&[STANDARD_INPUT]),
     )
 }

@@ -3,12 +3,12 @@
 use crate::building::{Argument, Takes, subcommand};
 use crate::faults::Fault;
 use crate::known_formats::KnownFormat;
-use crate::objects::{Datum, push_object};
 use crate::options::{DRAFT, IGNORE, OUTPUT, OutputForm, draft_of};
 use crate::outcome::Outcome;
 use crate::output::write_text;
 use crate::schemas::{compile, read_schema, require_keywords};
 use clap::{ArgMatches, Command};
+use neldrafi_check::{Datum, push_object};
 use serde_json::{Value, json};
 use std::alloc::{AllocError, Global};
 use strkw_companions::companions_of;

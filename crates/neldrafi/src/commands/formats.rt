@@ -4,11 +4,11 @@ use crate::building::{Argument, subcommand};
 use crate::drafts::{DRAFTS, draft_name};
 use crate::faults::Fault;
 use crate::known_formats::KnownFormat;
-use crate::objects::{Datum, push_object};
 use crate::options::{OUTPUT, OutputForm};
 use crate::outcome::Outcome;
 use crate::output::write_text;
 use clap::{ArgMatches, Command};
+use neldrafi_check::{Datum, push_object};
 use std::alloc::{AllocError, Global};
 
 /// The name of the subcommand.

@@ -5,7 +5,6 @@ use crate::drafts::draft_number;
 use crate::faults::Fault;
 use crate::inputs::{InputFile, STANDARD_INPUT};
 use crate::known_formats::KnownFormat;
-use crate::objects::{Datum, object};
 use crate::options::{
     DELIMITER, DRAFT, NO_HEADER, OUTPUT, OutputForm, delimiter_said, draft_of, header_said,
 };
@@ -14,6 +13,7 @@ use crate::output::write_text;
 use crate::plans::{set_delimiter, set_text, set_value};
 use clap::{ArgMatches, Command};
 use csv::StringRecord;
+use neldrafi_check::{Datum, object};
 use serde_json::{Map, Value};
 use std::alloc::{AllocError, Global};
 use std::collections::BTreeMap;

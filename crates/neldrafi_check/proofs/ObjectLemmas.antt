@@ -2,8 +2,8 @@
 use Rattle.std.proofs.Common.{◌≡◌, ◌∙◌, ℕ, ◌+◌, ◌<◌, ◌≤◌, List, length, get_or, drop, Bor, sym, ap}
 use Rattle.std.proofs.lemmas.List.{drop_all, drop_more}
 use Rattle.serde_json.specs.Data.{Data, Members, put}
-use Rattle.neldrafi.specs.Objects.{data_of, with_members}
-use Rattle.neldrafi.specs.declared.objects.Datum.{Datum}
+use Rattle.neldrafi_check.specs.Objects.{data_of, with_members}
+use Rattle.neldrafi_check.specs.declared.objects.Datum.{Datum}
 
 module _ (ms : List (Bor (List ℕ) × Datum)) (i : ℕ) where
   -- with the next member put in, the rest makes of the object what it made with that member

@@ -1,7 +1,7 @@
 use Rattle.std.proofs.Common.{◌≡◌, drop}
 use Rattle.serde_json.specs.View.{members_view}
-use Rattle.neldrafi.specs.Objects.{with_members}
-use Rattle.neldrafi.proofs.objects.put_all.Given as goal
+use Rattle.neldrafi_check.specs.Objects.{with_members}
+use Rattle.neldrafi_check.proofs.objects.put_all.Given as goal
 
 -- with the members that are left, the object is the one with all of them
 abbrev pub invariant-loop-member : goal.invariant-loop-member

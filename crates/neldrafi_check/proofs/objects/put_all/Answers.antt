@@ -1,7 +1,7 @@
 use Rattle.std.proofs.Common.{◌∙◌, arith, sym}
 use Rattle.serde_json.specs.View.{members_view}
-use Rattle.neldrafi.proofs.ObjectLemmas.{none_left, put_next}
-use Rattle.neldrafi.proofs.objects.put_all.Goals as goal
+use Rattle.neldrafi_check.proofs.ObjectLemmas.{none_left, put_next}
+use Rattle.neldrafi_check.proofs.objects.put_all.Goals as goal
 
 pub loop-member-preserved : goal.loop-member-preserved
 loop-member-preserved c =

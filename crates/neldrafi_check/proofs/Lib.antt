@@ -1,0 +1,5 @@
+mod ObjectLemmas
+mod CutLemmas
+mod FileLemmas
+mod RunLemmas
+mod SaidLemmas

@@ -1,0 +1,9 @@
+pub mod Shown
+pub mod Cutting
+pub mod Kinds
+pub mod Objects
+pub mod Forms
+pub mod Messages
+pub mod Files
+pub mod Faults
+pub mod machine

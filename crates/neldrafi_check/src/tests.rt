@@ -1,0 +1,131 @@
+//! What is written about files. A test whose name ends in `_under_refusal` may also end as out of memory where an
+//! allocation is refused.
+
+use super::{CheckFault, ErrorForm, JsonObjects, LineKind, TextLines, check_document, check_lines};
+use neldrafi_schema::{Config, Schema, SchemaErrorKind};
+use serde_json::Value;
+use std::alloc::{AllocError, Global};
+use std::io::Cursor;
+use std::test::Fail;
+use strkw_pattern::NoPatterns;
+
+// The value of a JSON text. The failure names a text that is none.
+fn value_of(alloc: Global, text: &'static str) -> Result<Value, Fail> {
+    match Value::from_str(alloc, text) {
+        Ok(value) => Ok(value),
+        Err(error) if error.is_memory() => Err(Fail::from(AllocError)),
+        Err(_) => Err(Fail::new(text)),
+    }
+}
+
+// The failure of a check that ended early.
+fn failure_of(fault: CheckFault) -> Fail {
+    match fault {
+        CheckFault::Memory => Fail::from(AllocError),
+        CheckFault::NotJson(_) => Fail::new("not JSON"),
+        CheckFault::NotUtf8 => Fail::new("not UTF-8"),
+        _ => Fail::new("a device"),
+    }
+}
+
+// A file, and what is written about it: a document, or lines of a kind.
+#[derive(Clone, Copy)]
+struct Row {
+    kind: Option<LineKind>,
+    file: &'static [u8],
+    written: &'static str,
+    errors: u64,
+}
+
+// Whether what a file is found to have is written as a row says, in a form. The failure names what a row says.
+fn is_written<F: ErrorForm>(
+    alloc: Global,
+    schema: &'static str,
+    row: Row,
+    form: &F,
+) -> Result<(), Fail> {
+    let document = value_of(alloc, schema)?;
+    let config = Config::new(&NoPatterns);
+    let schema = match Schema::compile(alloc, &document, &config) {
+        Ok(schema) => schema,
+        Err(refusal) if matches!(refusal.kind, SchemaErrorKind::Memory) => {
+            return Err(Fail::from(AllocError));
+        }
+        Err(_) => return Err(Fail::new(schema)),
+    };
+    let mut bytes = Vec::new(alloc);
+    bytes.extend_from_slice(row.file)?;
+    let file = Cursor::new(bytes);
+    let mut out = Vec::new(alloc);
+    let checked = match row.kind {
+        None => check_document(alloc, &schema, file, form, &mut out),
+        Some(kind) => check_lines(alloc, &schema, kind, file, form, &mut out),
+    };
+    match checked {
+        Ok(errors) if errors == row.errors && out.as_slice() == row.written.as_bytes() => Ok(()),
+        Ok(_) => Err(Fail::new(row.written)),
+        Err(fault) => Err(failure_of(fault)),
+    }
+}
+
+// The form of text, of this file.
+const LINES: TextLines<'static> = TextLines { file: "f" };
+
+// Members whose values are texts, and no other than these.
+const SCHEMA: &str =
+    r#"{"properties":{"a":{"type":"string"},"b/":{"maxLength":1}},"required":["a"]}"#;
+
+#[test]
+fn documents_under_refusal(rt: HostRuntime) -> Result<(), Fail> {
+    let row = Row {
+        kind: None,
+        file: b"{\n \"b/\": \"xy\",\n \"a\" : 5}",
+        written: "f:3:8: /a: 5 is not of type \"string\"\nf:2:8: /b~1: \"xy\" is longer than 1 character\n",
+        errors: 2,
+    };
+    is_written(rt.alloc(), SCHEMA, row, &LINES)
+}
+
+#[test]
+fn valid_documents_under_refusal(rt: HostRuntime) -> Result<(), Fail> {
+    let row = Row {
+        kind: None,
+        file: b"{\"a\":\"\"}",
+        written: "",
+        errors: 0,
+    };
+    is_written(rt.alloc(), SCHEMA, row, &LINES)
+}
+
+#[test]
+fn json_lines_under_refusal(rt: HostRuntime) -> Result<(), Fail> {
+    let row = Row {
+        kind: Some(LineKind::Json),
+        file: b"{\"a\":\"\"}\n\n {}\r\n\"\xFF\"\n{",
+        written: "f:3:2: \"a\" is a required property\nf:4:1: not UTF-8\nf:5:1: not JSON: EOF while parsing\n",
+        errors: 3,
+    };
+    is_written(rt.alloc(), SCHEMA, row, &LINES)
+}
+
+#[test]
+fn lines_of_text_under_refusal(rt: HostRuntime) -> Result<(), Fail> {
+    let row = Row {
+        kind: Some(LineKind::Text),
+        file: b"ab\r\n\n\xFF\nabc",
+        written: "f:1:1: \"ab\" is longer than 1 character\nf:3:1: not UTF-8\nf:4:1: \"abc\" is longer than 1 character\n",
+        errors: 3,
+    };
+    is_written(rt.alloc(), r#"{"maxLength":1}"#, row, &LINES)
+}
+
+#[test]
+fn objects_under_refusal(rt: HostRuntime) -> Result<(), Fail> {
+    let row = Row {
+        kind: Some(LineKind::Json),
+        file: b"{\"a\":[1]}\n}",
+        written: "{\"file\":\"f\",\"instance\":[1],\"keyword\":\"/properties/a/type\",\"kind\":\"type\",\"line\":1,\"location\":\"/a\",\"message\":\"[1] is not of type \\\"string\\\"\",\"position\":6}\n{\"file\":\"f\",\"kind\":\"unread\",\"line\":2,\"message\":\"not JSON: invalid JSON\",\"position\":1}\n",
+        errors: 2,
+    };
+    is_written(rt.alloc(), SCHEMA, row, &JsonObjects { file: "f" })
+}
