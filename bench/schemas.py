@@ -217,6 +217,25 @@ def compare(program, folder, records, rounds):
               f"| {here / seconds:.3f} |", flush=True)
 
 
+def compare_command(folder, records, rounds):
+    """Prints the times of `neldrafi check` and of ajv on records without an error."""
+    program = unproved.build("neldrafi", TOP / "crates", level=2, checked=False)
+    schema, valid, lines = (folder / name for name in ("schema.json", "valid.jsonl", "valid"))
+    schema.write_text(json.dumps(SCHEMA), encoding="utf-8")
+    write_lines(lines, SCHEMA, (record(3 * number) for number in range(records)))
+    valid.write_text(lines.read_text(encoding="utf-8").partition("\n")[2], encoding="utf-8")
+    taken = {"neldrafi check": [], "ajv": []}
+    for _ in range(rounds):  # by turns
+        before = resource.getrusage(resource.RUSAGE_CHILDREN)
+        subprocess.run([program, "check", schema, valid], check=True)
+        after = resource.getrusage(resource.RUSAGE_CHILDREN)
+        taken["neldrafi check"].append(after.ru_utime + after.ru_stime - before.ru_utime - before.ru_stime)
+        taken["ajv"].append(run(["node", "-e", AJV], lines)[0])
+    print("| Program | Seconds |\n|---|---|")
+    for name, seconds in taken.items():
+        print(f"| {name} | {min(seconds):.2f} |", flush=True)
+
+
 def members(count):
     """An object of so many members."""
     return {f"member{at:06}": at for at in range(count)}
@@ -309,6 +328,8 @@ def main():
         program = built(folder)
         if not options.growth:
             compare(program, folder, options.records, options.rounds)
+            print()
+            compare_command(folder, options.records, options.rounds)
             print()
         grow(program, folder)
     return 0
