@@ -18,10 +18,10 @@ fn value_of(alloc: Global, text: &'static str) -> Result<Value, Fail> {
     }
 }
 
-// The failure of a check that ended early.
+// The failure of a check that ended early. A vector refuses what is written to it only if out of memory.
 fn failure_of(fault: CheckFault) -> Fail {
     match fault {
-        CheckFault::Memory => Fail::from(AllocError),
+        CheckFault::Memory | CheckFault::Write => Fail::from(AllocError),
         CheckFault::NotJson(_) => Fail::new("not JSON"),
         CheckFault::NotUtf8 => Fail::new("not UTF-8"),
         _ => Fail::new("a device"),
