@@ -60,7 +60,7 @@ pub(crate) fn borrowed<'a>(
     Ok(all)
 }
 
-/// Refuses a schema with names that are no keywords, and do not begin with `x-`. The fault tells all of them.
+/// Refuses a schema with unknown keywords, other than names that begin with `x-`. The fault lists all of them.
 pub(crate) fn require_known(alloc: Global, draft: Draft, schema: &Value) -> Result<(), Fault> {
     let mut words = String::new(alloc);
     for unknown in &unknown_keywords(alloc, schema, Some(draft))? {
@@ -74,7 +74,7 @@ pub(crate) fn require_known(alloc: Global, draft: Draft, schema: &Value) -> Resu
     Err(Fault::with_words(Reach::Run, Ok(words)))
 }
 
-// Appends that a name is no keyword, behind what is said of others.
+// Appends that a keyword is unknown, after a semicolon unless it is the first.
 fn push_unknown(unknown: &UnknownKeyword, words: &mut String) -> Result<(), AllocError> {
     if !words.is_empty() {
         words.push_str("; ")?;
@@ -87,7 +87,7 @@ fn push_unknown(unknown: &UnknownKeyword, words: &mut String) -> Result<(), Allo
     Ok(())
 }
 
-/// The fault that tells why a schema is refused.
+/// The fault for a schema that was refused: the place and the reason.
 pub(crate) fn fault_of(alloc: Global, refusal: SchemaError) -> Fault {
     let told = match &refusal.kind {
         SchemaErrorKind::Memory => Fault::Memory,

@@ -74,8 +74,8 @@ fn tell_fault(rt: &HostRuntime, subject: Subject<'_>, wanted: Wanted, fault: &Fa
     }
 }
 
-/// What the fault that ended the check of a file comes to, which is told. What comes is nothing if the output is
-/// closed. The errors are those that keep the files behind from being checked.
+/// Reports the fault that ended the check of a file, and returns its outcome, or `None` if standard output is closed.
+/// The errors are the faults that also prevent the check of later files.
 pub(crate) fn outcome_of_fault(
     rt: &HostRuntime,
     subject: Subject<'_>,

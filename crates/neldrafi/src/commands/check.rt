@@ -206,8 +206,8 @@ impl<E: RegexEngine> SchemaCheck<'_, E> {
         }
     }
 
-    // Checks a file, and tells of its fault. What comes is nothing if the output is closed. The errors are those that
-    // keep the files behind from being checked.
+    // Checks a file, reports its fault, and returns its outcome, or `None` if standard output is closed. The errors are
+    // the faults that also prevent the check of later files.
     fn check_and_tell(&self, rt: &HostRuntime, path: &str) -> Result<Option<Outcome>, Fault>
         requires { IsCompiled E.outcome (lists_in admits accepts is_encoding decoding
             self.now.schema.now) self.now.schema.now }
@@ -229,7 +229,7 @@ impl<E: RegexEngine> SchemaCheck<'_, E> {
         }
     }
 
-    // Checks each of the files, and tells of their faults. What comes is the worst that a file came to.
+    // Checks each of the files, reports their faults, and returns the worst outcome.
     fn check_each(&self, rt: &HostRuntime, paths: &[&str]) -> Result<Outcome, Fault>
         requires { IsCompiled E.outcome (lists_in admits accepts is_encoding decoding
             self.now.schema.now) self.now.schema.now }
