@@ -13,6 +13,7 @@ use crate::faults::CheckFault;
 use crate::forms::ErrorForm;
 use crate::origin::Origin;
 use crate::values::push_errors;
+use neldrafi_position::Positions;
 use neldrafi_schema::Schema;
 use serde_json::Value;
 use std::alloc::Global;
@@ -49,14 +50,8 @@ pub fn check_document<E: RegexEngine, R: Read + Drop, W: Write, F: ErrorForm>(
     };
     let value = read_value(alloc, text)?;
     let mut out = String::new(alloc);
-    let count = push_errors(
-        alloc,
-        schema,
-        Origin::Document(text),
-        &value,
-        form,
-        &mut out,
-    )?;
+    let mut origin = Origin::Document(Positions::new(alloc, text));
+    let count = push_errors(alloc, schema, &mut origin, &value, form, &mut out)?;
     if writer.write_all(out.as_bytes()).is_err() {
         return Err(CheckFault::Write);
     }

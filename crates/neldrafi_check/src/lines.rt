@@ -17,7 +17,7 @@ use crate::origin::Origin;
 use crate::texts::{is_blank, read_value, without_end, without_place};
 use crate::values::push_errors;
 use json::Scratch;
-use neldrafi_position::Position;
+use neldrafi_position::{Position, Positions};
 use neldrafi_schema::Schema;
 use serde_json::Value;
 use std::alloc::{AllocError, Global};
@@ -102,8 +102,8 @@ impl<E: RegexEngine, F: ErrorForm> LineCheck<'_, E, F> {
         }
         match read_value(alloc, text, scratch)? {
             Some(value) => {
-                let origin = Origin::Line(number, text);
-                push_errors(alloc, self.schema, origin, &value, self.form, out)
+                let mut origin = Origin::Line(number, Positions::new(alloc, text));
+                push_errors(alloc, self.schema, &mut origin, &value, self.form, out)
             }
             None => push_not_json(alloc, self.form, number, text, out),
         }
@@ -126,14 +126,8 @@ impl<E: RegexEngine, F: ErrorForm> LineCheck<'_, E, F> {
             (string_bytes out.old) (string_bytes out.new)) }
     {
         let value = Value::try_from_str(alloc, text)?;
-        push_errors(
-            alloc,
-            self.schema,
-            Origin::Front(number),
-            &value,
-            self.form,
-            out,
-        )
+        let mut origin = Origin::Front(number);
+        push_errors(alloc, self.schema, &mut origin, &value, self.form, out)
     }
 }
 

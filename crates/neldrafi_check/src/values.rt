@@ -1,6 +1,6 @@
 //! The messages about one value.
 
-ghost use Rattle.std.specs.Prelude.{IfOk, OnOk, string_bytes};
+ghost use Rattle.std.specs.Prelude.{◌≡◌, IfOk, OnOk, string_bytes};
 ghost use Rattle.serde_json.specs.View.{view};
 ghost use Rattle.neldrafi_schema.specs.Meaning.{HasErrors};
 ghost use Rattle.neldrafi_schema.specs.machine.Found.{error_seen, errors_of};
@@ -20,7 +20,7 @@ use strkw_pattern::RegexEngine;
 pub(crate) fn push_errors<E: RegexEngine, F: ErrorForm>(
     alloc: Global,
     schema: &Schema<'_, E>,
-    origin: Origin<'_>,
+    origin: &mut Origin<'_>,
     value: &Value,
     form: &F,
     out: &mut String,
@@ -30,7 +30,7 @@ pub(crate) fn push_errors<E: RegexEngine, F: ErrorForm>(
     ensures { let lists = lists_in admits accepts is_encoding decoding schema.now in
         IfOk result (λ count. Adds (Told
         (HasErrors (schemas_in E.outcome schema.now) lists (view value.now))
-        (F.writes form.now) (positions_of origin.entry) count)
+        (F.writes form.now) (positions_of origin.old) count)
         (string_bytes out.old) (string_bytes out.new)) }
 {
     // Most values have no error, and are found valid without a list.
@@ -46,13 +46,13 @@ pub(crate) fn push_errors<E: RegexEngine, F: ErrorForm>(
 // Appends the message about each of these errors.
 fn push_all<F: ErrorForm>(
     alloc: Global,
-    origin: Origin<'_>,
+    origin: &mut Origin<'_>,
     errors: &[ValidationError],
     form: &F,
     out: &mut String,
 ) -> Result<(), AllocError>
     ensures { OnOk result (Adds
-        (AreSaid (F.writes form.now) (positions_of origin.entry) (errors_of errors.now))
+        (AreSaid (F.writes form.now) (positions_of origin.old) (errors_of errors.now))
         (string_bytes out.old) (string_bytes out.new)) }
 {
     for error in errors {
@@ -64,13 +64,14 @@ fn push_all<F: ErrorForm>(
 // Appends the message about an error.
 fn push_one<F: ErrorForm>(
     alloc: Global,
-    origin: Origin<'_>,
+    origin: &mut Origin<'_>,
     error: &ValidationError,
     form: &F,
     out: &mut String,
 ) -> Result<(), AllocError>
-    ensures { OnOk result (Adds
-        (Says (F.writes form.now) (positions_of origin.entry) (error_seen error.now))
+    ensures same { origin.new ≡ origin.old }
+    ensures said { OnOk result (Adds
+        (Says (F.writes form.now) (positions_of origin.old) (error_seen error.now))
         (string_bytes out.old) (string_bytes out.new)) }
 {
     let at = origin.position(alloc, error.instance_path().as_str())?;

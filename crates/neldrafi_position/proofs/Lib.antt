@@ -1,6 +1,10 @@
+pub mod ElementLemmas
 pub mod Elements
 pub mod KeyTexts
+pub mod KeptLemmas
+pub mod MarkLemmas
 pub mod MemberLemmas
 pub mod Naming
+pub mod PlaceLemmas
 pub mod Pointing
 pub mod Texts

@@ -1,11 +1,11 @@
 -- The tokens of a pointer.
-use Rattle.std.proofs.Common.{◌≡◌, ◌⊎◌, ◌∙◌, ℕ, suc, ◌<◌, ◌^◌, ◌-◌, ◌≤◌, List, [], ◌∷◌, length, take, get_or, drop, refl, sym, arith, eq-eqb, eqb-true, ne_eqb, Bool, true, false, Some, None, Result, Ok, Err, inl, inr}
+use Rattle.std.proofs.Common.{◌≡◌, ◌⊎◌, ℕ, suc, ◌<◌, ◌^◌, ◌-◌, ◌≤◌, List, [], ◌∷◌, length, take, get_or, drop, refl, arith, eq-eqb, eqb-true, ne_eqb, Bool, true, false, Some, None, Result, Ok, Err, inl, inr}
 use Rattle.std.proofs.lemmas.Bool.Decides.{nat_tests}
 use Rattle.std.proofs.lemmas.List.{take_all}
 use Rattle.std.proofs.lemmas.Str.Parse.{numerals_by_value, parse_plain, tells_all_ascii_digits}
 use Rattle.std.specs.Prelude.{if◌then◌else◌, not, ◌&&◌, ◌||◌, ◌==◌, ◌≢◌, nat_lt}
 use Rattle.std.specs.Result.{OkIff, result_ok}
-use Rattle.std.specs.Str.{all_ascii_digits, bytes_eq}
+use Rattle.std.specs.Str.{all_ascii_digits}
 use Rattle.std.specs.Str.Parse.{ParsesUnsigned, digits_value}
 use Rattle.serde_json.specs.Find.{unescape}
 use Rattle.neldrafi_position.specs.Places.{is_index}
@@ -69,21 +69,6 @@ tilde_zero (c ∷ []) h g e f = let s = tail_long c [] g in absurd (omega arith)
 tilde_zero (c ∷ d ∷ token) h g e f =
     let is = second_is c (d ∷ token) 48 f in
     rw (tail_is c (d ∷ token), tail_is d token, eq-eqb c 126 e, ne_eqb d 49 (omega arith), eq-eqb d 48 is) refl
-
-some_left : (n : ℕ) → (suc n == 0) ≡ false
-some_left n = grind (arith, nat_tests)
-
-cons_none : (a b : Bool) (x y z : ℕ) (xs ys zs : List ℕ) → bytes_eq (if a then x ∷ xs else (if b then y ∷ ys else z ∷ zs)) [] ≡ false
-cons_none true b x y z xs ys zs = refl
-cons_none false true x y z xs ys zs = refl
-cons_none false false x y z xs ys zs = refl
-
-pub stands_for_none : (token : List ℕ) → (length token == 0) ≡ bytes_eq (unescape token) []
-unfolding unescape
-stands_for_none [] = refl
-stands_for_none (c ∷ []) = refl
-stands_for_none (c ∷ d ∷ token) =
-    some_left (suc (length token)) ∙ sym (cons_none (c == 126 && d == 49) (c == 126 && d == 48) 47 126 c (unescape token) (unescape token) (unescape (d ∷ token)))
 
 -- ---- indices
 

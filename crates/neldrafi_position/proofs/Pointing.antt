@@ -1,25 +1,16 @@
 -- The tokens of a pointer, and where they lead.
-use Rattle.std.proofs.Common.{◌≡◌, ◌∙◌, ◌==◌, ℕ, ◌-◌, ◌≤◌, List, [], ◌∷◌, Bor, get_or, length, map, take, drop, refl, sym, subst, ap, arith, Option, Some, None, Result, Ok, Err, IfOk}
+use Rattle.std.proofs.Common.{◌≡◌, ◌∙◌, ◌==◌, ℕ, ◌-◌, ◌≤◌, List, [], ◌∷◌, Bor, get_or, length, map, take, drop, refl, sym, subst, ap, arith, None}
 use Rattle.std.proofs.lemmas.List.{length-drop, take_all}
 use Rattle.std.proofs.lemmas.Str.{IsCharBoundary-from_drop}
 use Rattle.std.specs.List.{slice_split}
 use Rattle.std.specs.Str.{IsCharBoundary, IsUtf8}
 use Rattle.neldrafi_position.specs.Places.{behind_first, value_along, value_at}
-use Rattle.neldrafi_position.specs.machine.Walks.{EndOf, EndsOf}
-use Rattle.neldrafi_position.proofs.Texts.{behind}
+use Rattle.neldrafi_position.specs.machine.Walks.{EndOf}
 
 abbrev pub texts : List (Bor (List ℕ)) → List (List ℕ)
 texts ts = map (λ t. t.now) ts
 
 -- ---- the ends of a text
-
-pub ends_behind : (text mid : List ℕ) (found : Option (Bor (List ℕ))) → EndOf text mid → EndsOf mid found → EndsOf text found
-ends_behind text mid None e f = f
-ends_behind text mid (Some rest) e f = behind text mid rest.now e f
-
-pub ok_ends_behind : {E : Type 0} (text mid : List ℕ) (r : Result (Option (Bor (List ℕ))) E) → EndOf text mid → IfOk r (EndsOf mid) → IfOk r (EndsOf text)
-ok_ends_behind text mid (Ok found) e f = ends_behind text mid found e f
-ok_ends_behind text mid (Err x) e f = f
 
 pub counted_back : (text rest : List ℕ) → EndOf text rest → drop (length text - length rest) text ≡ rest
 counted_back text rest e =

@@ -2,11 +2,11 @@
 use Rattle.std.proofs.Common.{◌≡◌, ◌≢◌, ◌∙◌, ◌==◌, ℕ, ◌+◌, ◌-◌, ◌<◌, List, ◌∷◌, ◌++◌, Bool, true, false, get_or, length, take, drop, drop-drop, refl, sym, ap, arith, eq-eqb, ne_eqb}
 use Rattle.std.proofs.lemmas.Bool.Decides.{nat_tests}
 use Rattle.std.proofs.lemmas.List.{at_drop_more, length-drop, take-append-drop}
-use Rattle.std.specs.Prelude.{◌||◌, suc, zero, slice_get, slice_range}
+use Rattle.std.specs.Prelude.{◌||◌, slice_range}
 use Rattle.std.specs.Str.{IsUtf8}
 use Rattle.neldrafi_position.specs.declared.parts.Within.{Within}
 use Rattle.neldrafi_position.specs.machine.Walks.{Cut, EndOf, parts_left}
-use Rattle.neldrafi_position.specs.Parts.{behind_separators, behind_space, closes, parts, in_escape, in_string, is_space, opens, separates}
+use Rattle.neldrafi_position.specs.Parts.{behind_separators, behind_space, closes, in_escape, in_string, is_space, opens, separates}
 
 -- a byte that passes one of these tests is ASCII
 one_of : (a b : Bool) (P : Type 0) → (a ≡ true → P) → (b ≡ true → P) → (a || b) ≡ true → P
@@ -69,13 +69,7 @@ module _ (bytes : List ℕ) (i depth depth' : ℕ) (within within' : Within) (h 
 n-0 : (n : ℕ) → n - 0 ≡ n
 n-0 n = omega arith
 
-suc-1 : (n : ℕ) → suc n - 1 ≡ n
-suc-1 n = omega arith
-
 -- ---- where a text ends and goes on
-
-pub whole : (text : List ℕ) → IsUtf8 text → EndOf text text
-whole text utf8 = record { passed = 0; within = omega arith; rest_is = refl; utf8 = utf8 }
 
 pub behind : (text mid rest : List ℕ) → EndOf text mid → EndOf mid rest → EndOf text rest
 behind text mid rest e f =
@@ -98,9 +92,3 @@ cut_at text front rest e h f r front_utf8 utf8 others =
       joined = sym (rw (first, r) (ap (λ t. take e text ++ t) (sym (at_drop_more (λ t. t) text e 0 h)) ∙ take-append-drop e text));
       others = others;
     }
-
--- ---- parts
-
-pub next_part : (text front rest : List ℕ) (n : ℕ) → Cut text front rest → 0 < n → slice_get (parts text) n ≡ slice_get (parts rest) (n - 1)
-next_part text front rest zero c h = absurd (omega arith)
-next_part text front rest (suc n) c h = rw (c.others, suc-1 n) refl

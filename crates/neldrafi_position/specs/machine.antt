@@ -1,3 +1,5 @@
 -- What only the code's own contracts name.
-pub mod Walks
+pub mod Kept
+pub mod Marks
 pub mod Tokens
+pub mod Walks

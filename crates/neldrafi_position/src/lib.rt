@@ -1,14 +1,15 @@
-//! Where a value is in a JSON text, by its JSON pointer, and its line and column.
+//! Where the values of a JSON text are, by their JSON pointers: their lines and columns.
 #![tactic(auto)]
 
-mod keys;
 mod parts;
-mod places;
 mod position;
+mod positions;
+mod starts;
 mod tokens;
+mod values;
 
-pub use places::value_start;
-pub use position::{Position, position_at, position_of};
+pub use position::Position;
+pub use positions::Positions;
 
 #[cfg(test)]
 mod tests;

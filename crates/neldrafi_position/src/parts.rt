@@ -1,8 +1,8 @@
 //! The parts of arrays and objects in a JSON text (RFC 8259, sections 2, 4, 5 and 7).
 
-ghost use Rattle.std.specs.Prelude.{◌≡◌, ◌+◌, ◌<◌, [], MatchOption, drop, length, option_map, slice_get, slice_index};
-ghost use Rattle.neldrafi_position.specs.Parts.{begins_with_closing, behind_separators, behind_space, closes, elements, is_space, opens, parts, separates};
-ghost use Rattle.neldrafi_position.specs.machine.Walks.{Cut, EndOf, EndsOf};
+ghost use Rattle.std.specs.Prelude.{◌≡◌, ◌+◌, ◌<◌, [], MatchOption, drop, length, slice_index};
+ghost use Rattle.neldrafi_position.specs.Parts.{begins_with_closing, behind_separators, behind_space, closes, is_space, opens, parts, separates};
+ghost use Rattle.neldrafi_position.specs.machine.Walks.{Cut, EndOf};
 
 /// A text without the white space in front of it (RFC 8259, section 2).
 pub(crate) fn behind_space(text: &str) -> &str
@@ -26,26 +26,8 @@ pub(crate) fn first_part(text: &str) -> Option<(&str, &str)>
     Some((&text[..end], &text[end + 1..]))
 }
 
-/// The text from an element of an array on, which begins behind the opening bracket.
-pub(crate) fn element_at(text: &str, index: usize) -> Option<&str>
-    ensures element { option_map (λ t. t.now) result ≡ slice_get (elements text.now) index }
-    ensures end { EndsOf text.now result }
-{
-    if begins_with_closing(behind_space(text)) {
-        return None;
-    }
-    let mut rest = text;
-    let mut left = index;
-    while left > 0 {
-        let (_, behind) = first_part(rest)?;
-        rest = behind;
-        left -= 1;
-    }
-    Some(rest)
-}
-
-// Whether a text begins with a bracket or brace that closes.
-fn begins_with_closing(text: &str) -> bool
+/// Whether a text begins with a bracket or brace that closes.
+pub(crate) fn begins_with_closing(text: &str) -> bool
     ensures { result ≡ begins_with_closing text.now }
 {
     match text.as_bytes() {

@@ -1,22 +1,28 @@
-//! Places by the rules of RFC 8259 and RFC 6901. A test whose name ends in `_under_refusal` may also end as out of
+//! Positions by the rules of RFC 8259 and RFC 6901. A test whose name ends in `_under_refusal` may also end as out of
 //! memory where an allocation is refused.
 
-use super::{Position, position_at, position_of, value_start};
+use super::{Position, Positions};
 use serde_json::Value;
 use std::alloc::{AllocError, Global};
 use std::test::Fail;
 
-/// A text, a pointer, and the byte at which the value begins.
-type Row = (&'static str, &'static str, Option<usize>);
+/// A pointer, and the column at which the value begins in a text of one line.
+type Start = (&'static str, Option<u64>);
 
-/// A text, a pointer, and the line and the column of the value.
-type Spot = (&'static str, &'static str, u64, u64);
+/// A pointer, and the line and the column of the value.
+type Spot = (&'static str, u64, u64);
 
-// Whether all values begin as the rows say, and `serde_json` finds a value where one begins. The failure names the
-// pointer of one that does not.
-fn begin(alloc: Global, rows: &[Row]) -> Result<(), Fail> {
-    for &(text, pointer, start) in rows {
-        if value_start(alloc, text, pointer)? != start
+// Whether all values of a text begin as is said, those of which there are none as the whole value, and `serde_json`
+// finds a value where one begins. The failure names the pointer of one that does not.
+fn begin(alloc: Global, text: &'static str, starts: &[Start]) -> Result<(), Fail> {
+    let mut positions = Positions::new(alloc, text);
+    let whole = positions.position_of(alloc, "")?;
+    for &(pointer, start) in starts {
+        let expected = match start {
+            Some(column) => Position { line: 1, column },
+            None => whole,
+        };
+        if positions.position_of(alloc, pointer)? != expected
             || has_value(alloc, text, pointer)? != start.is_some()
         {
             return Err(Fail::new(pointer));
@@ -34,10 +40,11 @@ fn has_value(alloc: Global, text: &'static str, pointer: &str) -> Result<bool, F
     }
 }
 
-// Whether all values are at the rows' positions. The failure names the pointer of one that is not.
-fn stand(alloc: Global, spots: &[Spot]) -> Result<(), Fail> {
-    for &(text, pointer, line, column) in spots {
-        if position_of(alloc, text, pointer)? != (Position { line, column }) {
+// Whether all values of a text are at these lines and columns. The failure names the pointer of one that is not.
+fn stand(alloc: Global, text: &str, spots: &[Spot]) -> Result<(), Fail> {
+    let mut positions = Positions::new(alloc, text);
+    for &(pointer, line, column) in spots {
+        if positions.position_of(alloc, pointer)? != (Position { line, column }) {
             return Err(Fail::new(pointer));
         }
     }
@@ -46,118 +53,127 @@ fn stand(alloc: Global, spots: &[Spot]) -> Result<(), Fail> {
 
 #[test]
 fn roots_under_refusal(rt: HostRuntime) -> Result<(), Fail> {
-    let rows: &[Row] = &[
-        ("1", "", Some(0)),
-        (" \t\r\n[]", "", Some(4)),
-        ("{}", "a", None),
-        ("{\"a\":1}", "a/a", None),
-    ];
-    begin(rt.alloc(), rows)
+    begin(rt.alloc(), "1", &[("", Some(1))])?;
+    begin(rt.alloc(), " \t\r[]", &[("", Some(4))])?;
+    begin(rt.alloc(), " {}", &[("a", None), ("", Some(2))])?;
+    begin(rt.alloc(), "{\"a\":1}", &[("a/a", None)])
 }
 
 #[test]
 fn elements_under_refusal(rt: HostRuntime) -> Result<(), Fail> {
-    let rows: &[Row] = &[
-        ("[10, 20,30 ]", "/0", Some(1)),
-        ("[10, 20,30 ]", "/1", Some(5)),
-        ("[10, 20,30 ]", "/2", Some(8)),
-        ("[10, 20,30 ]", "/3", None),
-        ("[10, 20,30 ]", "/01", None),
-        ("[10, 20,30 ]", "/+1", None),
-        ("[10, 20,30 ]", "/", None),
-        ("[10, 20,30 ]", "/-", None),
-        ("[10, 20,30 ]", "/1/0", None),
-        ("[10, 20,30 ]", "/18446744073709551617", None),
-        ("[ ]", "/0", None),
-        ("[[], {}, [[0]]]", "/1", Some(5)),
-        ("[[], {}, [[0]]]", "/2/0/0", Some(11)),
-        ("[\"0\"]", "/0/0", None),
-        ("[0,1,2,3,4,5,6,7,8,9,10]", "/10", Some(21)),
+    let starts: &[Start] = &[
+        ("/1", Some(6)),
+        ("/0", Some(2)),
+        ("/2", Some(9)),
+        ("/0", Some(2)),
+        ("/3", None),
+        ("/01", None),
+        ("/+1", None),
+        ("/", None),
+        ("/-", None),
+        ("/1/0", None),
+        ("/18446744073709551617", None),
     ];
-    begin(rt.alloc(), rows)
+    begin(rt.alloc(), "[10, 20,30 ]", starts)?;
+    begin(rt.alloc(), "[ ]", &[("/0", None)])?;
+    let starts: &[Start] = &[("/2/0/0", Some(12)), ("/1", Some(6)), ("/2/0/0", Some(12))];
+    begin(rt.alloc(), "[[], {}, [[0]]]", starts)?;
+    begin(rt.alloc(), "[\"0\"]", &[("/0/0", None)])?;
+    let starts: &[Start] = &[("/10", Some(22)), ("/1", Some(4))];
+    begin(rt.alloc(), "[0,1,2,3,4,5,6,7,8,9,10]", starts)
 }
 
 #[test]
 fn members_under_refusal(rt: HostRuntime) -> Result<(), Fail> {
-    let rows: &[Row] = &[
-        ("{\"a\":{\"b\":[1,{\"c\":true}]}}", "/a/b/1/c", Some(18)),
-        ("{\"a\":{\"b\":[1,{\"c\":true}]}}", "/b", None),
-        ("{\"a\":{\"b\":[1,{\"c\":true}]}}", "/a/c", None),
-        ("{ \"a\" : 1 , \"b\" : 2 }", "/b", Some(18)),
-        ("{\"0\":1}", "/0", Some(5)),
-        ("{\"\":1}", "/", Some(4)),
-        ("{\"\":{\"\":1}}", "//", Some(8)),
-        ("{ }", "/", None),
-        ("{\"a\":\"b\"}", "/b", None),
+    let starts: &[Start] = &[
+        ("/a/b/1/c", Some(19)),
+        ("/b", None),
+        ("/a/c", None),
+        ("/a/b/0", Some(12)),
+        ("/a/b/1/c", Some(19)),
+        ("/a", Some(6)),
     ];
-    begin(rt.alloc(), rows)
+    begin(rt.alloc(), "{\"a\":{\"b\":[1,{\"c\":true}]}}", starts)?;
+    let starts: &[Start] = &[("/b", Some(19)), ("/a", Some(9))];
+    begin(rt.alloc(), "{ \"a\" : 1 , \"b\" : 2 }", starts)?;
+    begin(rt.alloc(), "{\"0\":1}", &[("/0", Some(6))])?;
+    begin(rt.alloc(), "{\"\":1}", &[("/", Some(5))])?;
+    begin(rt.alloc(), "{\"\":{\"\":1}}", &[("//", Some(9))])?;
+    begin(rt.alloc(), "{ }", &[("/", None)])?;
+    begin(rt.alloc(), "{\"a\":\"b\"}", &[("/b", None)])
 }
 
 #[test]
 fn last_of_equal_names_under_refusal(rt: HostRuntime) -> Result<(), Fail> {
-    let rows: &[Row] = &[
-        ("{\"a\":1,\"b\":2,\"a\":3}", "/a", Some(17)),
-        ("{\"a\":1,\"b\":2,\"\\u0061\":3}", "/a", Some(22)),
-        ("{\"a\":{\"b\":1},\"a\":{\"c\":2}}", "/a/b", None),
-        ("{\"a\":{\"b\":1},\"a\":{\"c\":2}}", "/a/c", Some(22)),
-    ];
-    begin(rt.alloc(), rows)
+    begin(rt.alloc(), "{\"a\":1,\"b\":2,\"a\":3}", &[("/a", Some(18))])?;
+    let starts: &[Start] = &[("/b", Some(12)), ("/a", Some(23))];
+    begin(rt.alloc(), "{\"a\":1,\"b\":2,\"\\u0061\":3}", starts)?;
+    let starts: &[Start] = &[("/a/b", None), ("/a/c", Some(23))];
+    begin(rt.alloc(), "{\"a\":{\"b\":1},\"a\":{\"c\":2}}", starts)
 }
 
 #[test]
 fn escapes_under_refusal(rt: HostRuntime) -> Result<(), Fail> {
-    let rows: &[Row] = &[
-        ("{\"\\u0061\":1}", "/a", Some(10)),
-        ("{\"a\\\"b\":1}", "/a\"b", Some(8)),
-        ("{\"\\\\\":1}", "/\\", Some(6)),
-        ("{\"\\ud83d\\ude00\":1}", "/😀", Some(16)),
-        ("{\"é\":1,\"ü\":2}", "/ü", Some(13)),
-        ("{\"a/b\":1,\"m~n\":2,\"~1\":3}", "/a~1b", Some(7)),
-        ("{\"a/b\":1,\"m~n\":2,\"~1\":3}", "/m~0n", Some(15)),
-        ("{\"a/b\":1,\"m~n\":2,\"~1\":3}", "/~01", Some(22)),
-        ("{\"a/b\":1,\"m~n\":2,\"~1\":3}", "/a/b", None),
-        ("{\"a~\":1}", "/a~", Some(6)),
-        ("{\"a~2\":1}", "/a~2", Some(7)),
+    begin(rt.alloc(), "{\"\\u0061\":1}", &[("/a", Some(11))])?;
+    begin(rt.alloc(), "{\"a\\\"b\":1}", &[("/a\"b", Some(9))])?;
+    begin(rt.alloc(), "{\"\\\\\":1}", &[("/\\", Some(7))])?;
+    begin(rt.alloc(), "{\"\\ud83d\\ude00\":1}", &[("/😀", Some(17))])?;
+    let starts: &[Start] = &[
+        ("/a~1b", Some(8)),
+        ("/m~0n", Some(16)),
+        ("/~01", Some(23)),
+        ("/a/b", None),
     ];
-    begin(rt.alloc(), rows)
+    begin(rt.alloc(), "{\"a/b\":1,\"m~n\":2,\"~1\":3}", starts)?;
+    begin(rt.alloc(), "{\"a~\":1}", &[("/a~", Some(7))])?;
+    begin(rt.alloc(), "{\"a~2\":1}", &[("/a~2", Some(8))])
 }
 
 #[test]
 fn strings_are_passed_under_refusal(rt: HostRuntime) -> Result<(), Fail> {
-    let rows: &[Row] = &[
-        ("[\"],\",1]", "/1", Some(6)),
-        ("[\"[{\",1]", "/1", Some(6)),
-        ("[\"\\\",\",1]", "/1", Some(7)),
-        ("[\"\\\\\",1]", "/1", Some(6)),
-        ("{\"a\":\"\\\"b\\\":\",\"b\":2}", "/b", Some(18)),
-        ("{\"a:b\":\"}\",\"b\":2}", "/b", Some(15)),
-        ("[[\"]\",{\"}\":\"]\"}],1]", "/1", Some(17)),
-    ];
-    begin(rt.alloc(), rows)
+    begin(rt.alloc(), "[\"],\",1]", &[("/1", Some(7))])?;
+    begin(rt.alloc(), "[\"[{\",1]", &[("/1", Some(7))])?;
+    begin(rt.alloc(), "[\"\\\",\",1]", &[("/1", Some(8))])?;
+    begin(rt.alloc(), "[\"\\\\\",1]", &[("/1", Some(7))])?;
+    begin(
+        rt.alloc(),
+        "{\"a\":\"\\\"b\\\":\",\"b\":2}",
+        &[("/b", Some(19))],
+    )?;
+    begin(rt.alloc(), "{\"a:b\":\"}\",\"b\":2}", &[("/b", Some(16))])?;
+    begin(rt.alloc(), "[[\"]\",{\"}\":\"]\"}],1]", &[("/1", Some(18))])
 }
 
 #[test]
-fn positions_under_refusal(rt: HostRuntime) -> Result<(), Fail> {
+fn lines_and_columns_under_refusal(rt: HostRuntime) -> Result<(), Fail> {
+    stand(rt.alloc(), "{\"port\": 99999}", &[("/port", 1, 10)])?;
+    stand(
+        rt.alloc(),
+        "{\r\n  \"port\": 99999\r\n}",
+        &[("/port", 2, 11)],
+    )?;
+    let spots: &[Spot] = &[("/a/1", 5, 5), ("/a", 3, 8), ("/a/0", 4, 5)];
+    stand(rt.alloc(), "{\n\n  \"a\": [\n    1,\n    2\n  ]\n}", spots)?;
+    let spots: &[Spot] = &[("/b", 1, 17), ("/é", 1, 7), ("/ü", 1, 1)];
+    stand(rt.alloc(), "{\"é\": \"😀\", \"b\": 2}", spots)?;
+    stand(rt.alloc(), "{\"é\": \"😀\",\n \"ü\": 2}", &[("/ü", 2, 7)])?;
+    stand(rt.alloc(), "\n {}", &[("", 2, 2), ("/a", 2, 2)])
+}
+
+// A text that is longer than some marks, whose characters have three bytes.
+#[test]
+fn behind_marks_under_refusal(rt: HostRuntime) -> Result<(), Fail> {
+    let mut text = String::from_str(rt.alloc(), "[\"")?;
+    for _ in 0..1500 {
+        text.push_str("€")?;
+    }
+    text.push_str("\", 7,\n\n [8, 9]]")?;
     let spots: &[Spot] = &[
-        ("{\"port\": 99999}", "/port", 1, 10),
-        ("{\r\n  \"port\": 99999\r\n}", "/port", 2, 11),
-        ("{\n\n  \"a\": [\n    1,\n    2\n  ]\n}", "/a/1", 5, 5),
-        ("{\"é\": \"😀\", \"b\": 2}", "/b", 1, 17),
-        ("{\"é\": \"😀\",\n \"ü\": 2}", "/ü", 2, 7),
-        ("\n {}", "", 2, 2),
-        ("\n {}", "/a", 2, 2),
+        ("/2/1", 3, 6),
+        ("/1", 1, 1506),
+        ("/0", 1, 2),
+        ("/2/0", 3, 3),
+        ("/1", 1, 1506),
     ];
-    stand(rt.alloc(), spots)
-}
-
-#[test]
-fn offsets(rt: HostRuntime) {
-    let text = "é\n😀b";
-    let start = Position { line: 1, column: 1 };
-    assert_eq!(rt; position_at(text, 0), start);
-    assert_eq!(rt; position_at(text, 2), (Position { line: 1, column: 2 }));
-    assert_eq!(rt; position_at(text, 3), (Position { line: 2, column: 1 }));
-    assert_eq!(rt; position_at(text, 7), (Position { line: 2, column: 2 }));
-    assert_eq!(rt; position_at(text, 8), (Position { line: 2, column: 3 }));
-    assert_eq!(rt; position_at(text, 99), (Position { line: 2, column: 3 }));
+    stand(rt.alloc(), &text, spots)
 }

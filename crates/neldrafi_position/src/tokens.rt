@@ -1,9 +1,10 @@
 //! The reference tokens of a JSON pointer (RFC 6901, section 4).
 
-ghost use Rattle.std.specs.Prelude.{◌≡◌, ◌∷◌, [], MatchOption};
-ghost use Rattle.std.specs.Str.{bytes_eq};
+ghost use Rattle.std.specs.Prelude.{◌≡◌, ◌∷◌, ◌<◌, [], IfOk, IfSome, MatchOption, length};
 ghost use Rattle.serde_json.specs.Find.{unescape};
 ghost use Rattle.neldrafi_position.specs.machine.Tokens.{begins_oddly, index_in_word};
+
+use std::alloc::{AllocError, Global};
 
 /// The index that a token is, if it fits 64 bits.
 pub(crate) fn index_of(token: &str) -> Option<usize>
@@ -15,24 +16,24 @@ pub(crate) fn index_of(token: &str) -> Option<usize>
     token.parse::<usize>().ok()
 }
 
-/// Whether a token stands for a name.
-pub(crate) fn stands_for(token: &[u8], name: &[u8]) -> bool
-    ensures { result ≡ bytes_eq (unescape token.now) name.now }
+/// The name for which a token stands.
+pub(crate) fn unescaped(alloc: Global, token: &str) -> Result<Vec<u8>, AllocError>
+    ensures { IfOk result (λ name. name.items ≡ unescape token.now) }
 {
-    let mut rest = token;
-    for byte in name {
-        match first_of(rest) {
-            Some((first, behind)) if first == *byte => rest = behind,
-            _ => return false,
-        }
+    let mut name = Vec::new(alloc);
+    let mut rest = token.as_bytes();
+    while let Some((byte, behind)) = first_of(rest) {
+        name.push(byte)?;
+        rest = behind;
     }
-    rest.is_empty()
+    Ok(name)
 }
 
 // The first character that a token stands for, and the token behind it.
 fn first_of(token: &[u8]) -> Option<(u8, &[u8])>
-    ensures { MatchOption result (unescape token.now ≡ [])
+    ensures name { MatchOption result (unescape token.now ≡ [])
         (λ f. unescape token.now ≡ f.0 ∷ unescape f.1.now) }
+    ensures shorter { IfSome result (λ f. length f.1.now < length token.now) }
 {
     let [first, behind @ ..] = token else {
         return None;

@@ -4,6 +4,6 @@ use Rattle.neldrafi_check.specs.declared.origin.Origin.{Origin}
 use Rattle.neldrafi_check.specs.declared.origin.Origin.TheVariants.{Document, Front, Line}
 
 abbrev pub positions_of : Origin → Positions
-positions_of (Document text) = in_text text.now
-positions_of (Line number text) = in_line number text.now
+positions_of (Document text) = in_text text
+positions_of (Line number text) = in_line number text
 positions_of (Front number) = at_front number

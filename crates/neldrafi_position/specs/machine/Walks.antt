@@ -1,6 +1,5 @@
 -- Where the code stands in a text.
-use Rattle.std.specs.Prelude.{◌≡◌, ℕ, ◌≤◌, List, ◌∷◌, ◌++◌, IfSome, Option, length, drop}
-use Rattle.std.specs.Borrow.{Bor}
+use Rattle.std.specs.Prelude.{◌≡◌, ℕ, ◌≤◌, List, ◌∷◌, ◌++◌, length, drop}
 use Rattle.std.specs.Str.{IsUtf8}
 use Rattle.neldrafi_position.specs.Parts.{behind_separators, in_escape, in_string}
 use Rattle.neldrafi_position.specs.declared.parts.Within.{Within}
@@ -12,9 +11,6 @@ pub record EndOf (text rest : List ℕ) : Type 0 where
   pub within : passed ≤ length text
   pub rest_is : rest ≡ drop passed text
   pub utf8 : IsUtf8 rest
-
-abbrev pub EndsOf : List ℕ → Option (Bor (List ℕ)) → Type 0
-EndsOf text found = IfSome found (λ rest. EndOf text rest.now)
 
 -- the texts behind the commas and colons that are left, from outside strings or from within one
 abbrev pub parts_left : Within → ℕ → List ℕ → List (List ℕ)
