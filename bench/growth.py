@@ -22,7 +22,6 @@ LARGE = 10_000_000
 RECORDS_OF_A_PIECE = 4096
 DIFFERENT_RECORDS = 1_000_000
 TIME = "/usr/bin/time"
-SCHEMAS = {"born": {"format": "date"}, "name": {"minLength": 1, "maxLength": 40}, "site": {"format": "uri"}}
 
 
 def born(number):
@@ -38,16 +37,6 @@ def site(number):
 def request(number):
     """A line for `strkw`."""
     return b'{"draft":7,"schema":{"format":"date"},"instance":"%b"}\n' % born(number)
-
-
-def record(number):
-    """A record of three fields."""
-    return b"Person %06d,%b,%b\n" % (number, born(number), site(number))
-
-
-def person(number):
-    """An element of a document."""
-    return b'{"name":"Person %06d","born":"%b","site":"%b"}' % (number, born(number), site(number))
 
 
 @dataclass(frozen=True)
@@ -72,13 +61,9 @@ class Kind:
         yield self.tail
 
 
-PLACES = {f"/people/*/{name}": schema for name, schema in SCHEMAS.items()}
 KINDS = {
     "`strkw`": Kind("strkw", (), {}, request, answer=b'valid\nnote /format: "date"\nend\n'),
-    "`strkw_csv`": Kind("strkw_csv", ("FILE",), {"draft": 7, "columns": SCHEMAS}, record, b"name,born,site\n"),
-    "`strkw_config`": Kind("strkw_config", ("FILE",), {"draft": 7, "places": PLACES},
-                           lambda number: person(number) + b",", b'{"people":[', person(0) + b"]}\n"),
-    "`neldrafi check`": Kind("neldrafi", ("check", "--as", "text", "--draft", "7", "FILE"), SCHEMAS["site"],
+    "`neldrafi check`": Kind("neldrafi", ("check", "--as", "text", "--draft", "7", "FILE"), {"format": "uri"},
                              lambda number: site(number) + b"\n"),
 }
 CRATES = tuple(kind.crate for kind in KINDS.values())

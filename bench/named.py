@@ -174,12 +174,6 @@ TABLES = {
     "characters": Entry(topic("characters"), "ns", of_characters, ratio=(COUNT, OF_RUST)),
     "records": Entry(None, {"MB": "MB", "Here, ms": "ms", "`csv::Reader`, ms": "ms"},
                      ratio=("Here, ms", "`csv::Reader`, ms")),
-    "files": Entry(takers.FILES, {
-        "Seconds": "s", "Records a second": "a second", "MB a second": "MB/s", "Instructions a record": "instructions",
-    }, by({"Seconds": "{}/seconds", "Records a second": "{}/records", "MB a second": "{}/MB",
-           "To `StringRecord`": "{}/ratio", "Instructions a record": "{}/instructions"})),
-    "files_phases": Entry(takers.FILES, "%", by({"Share, %": "{}/share"})),
-    "files_memory": Entry(takers.FILES, "MB", by({"Memory, MB": "{}/memory"})),
     "requests": Entry(takers.REQUEST_LINES, {
         "Bytes a line": "bytes", "Requests a second": "a second", "MB a second": "MB/s",
     }, by({"Requests a second": "{}/requests", "MB a second": "{}/MB", RATIO: "{}/ratio"}, REQUEST_KINDS)),

@@ -3,10 +3,10 @@
 
     python3 bench/tables.py [ROUNDS]     the least of so many rounds, 9 if none is given
 
-`strkw_csv` compiles each column of a plan once. It is run on a plan of 400 columns with one pattern and on a header
-alone, so that the program builds the pattern's engine 400 times and searches nothing. The time of the pattern `^a$` is
-taken off, for which there is little to build. The program is the one that the last `rt ci` or `rt run` left in
-crates/strkw_csv/out.
+`neldrafi check` compiles each subschema of a schema once. It is run on a schema of 400 properties with one pattern and
+on a document without any of them, so that the program builds the pattern's engine 400 times and searches nothing. The
+time of the pattern `^a$` is taken off, for which there is little to build. The program is the one that the last `rt ci`
+or `rt run` left in crates/neldrafi/out.
 """
 import json
 import resource
@@ -15,8 +15,8 @@ import sys
 import tempfile
 from pathlib import Path
 
-PROGRAM = Path(__file__).resolve().parent.parent / "crates/strkw_csv/out/strkw_csv"
-COLUMNS = 400
+PROGRAM = Path(__file__).resolve().parent.parent / "crates/neldrafi/out/neldrafi"
+PROPERTIES = 400
 LABEL = "[a-zA-Z0-9](?:[a-zA-Z0-9-]{0,61}[a-zA-Z0-9])?"
 SMALL = "^a$"
 PATTERNS = [
@@ -33,15 +33,14 @@ def processor_seconds():
 
 
 def build_seconds(pattern, folder, rounds):
-    """The processor time of a run that builds the engine of a pattern for each column."""
-    names = [f"c{number}" for number in range(COLUMNS)]
-    plan = Path(folder) / "plan.json"
-    columns = {name: {"pattern": pattern} for name in names}
-    plan.write_text(json.dumps({"draft": 7, "columns": columns}), encoding="utf-8")
-    header, least = ",".join(names) + "\n", float("inf")
+    """The processor time of a run that builds the engine of a pattern for each property."""
+    schema = Path(folder) / "schema.json"
+    properties = {f"p{number}": {"pattern": pattern} for number in range(PROPERTIES)}
+    schema.write_text(json.dumps({"properties": properties}), encoding="utf-8")
+    least = float("inf")
     for _ in range(rounds):
         began = processor_seconds()
-        subprocess.run([PROGRAM, plan], input=header, text=True, stdout=subprocess.PIPE, check=True)
+        subprocess.run([PROGRAM, "check", schema], input="{}", text=True, stdout=subprocess.PIPE, check=True)
         least = min(least, processor_seconds() - began)
     return least
 
@@ -53,7 +52,7 @@ def main():
         small = build_seconds(SMALL, folder, rounds)
         for pattern in PATTERNS:
             taken = build_seconds(pattern, folder, rounds) - small
-            print(f"{taken / COLUMNS * 1e6:6.0f} microseconds  {pattern[:60]}")
+            print(f"{taken / PROPERTIES * 1e6:6.0f} microseconds  {pattern[:60]}")
 
 
 if __name__ == "__main__":

@@ -11,7 +11,6 @@ from pathlib import Path
 from statistics import median
 from typing import Callable, NamedTuple
 
-import files
 import growth
 from figures import cells_of
 from tables import PATTERNS
@@ -105,11 +104,6 @@ def growth_figures(options):
     return growth.figures(options.up_to)
 
 
-def file_figures(options):
-    """The figures of files.py, of the built program."""
-    return files.figures(TOP / "crates/strkw_csv/out/strkw_csv")
-
-
 def middle(runs):
     """The median figure of each name in some runs."""
     return {name: median(found[name] for found in runs) for name in runs[0]}
@@ -121,8 +115,7 @@ def topic(name):
 
 
 PATTERN_SEARCHES = Run(("strkw_bench",), pattern_figures)
-BUILDING_OF_TABLES = Run(("strkw_csv",), building_figures)
+BUILDING_OF_TABLES = Run(("neldrafi",), building_figures)
 REQUEST_LINES = Run(("strkw",), request_figures)
 PYTHON_CHECKS = Run(("bindings",), python_figures)
-FILES = Run(("strkw_csv",), file_figures)
 GROWTH = Run(growth.CRATES, growth_figures)

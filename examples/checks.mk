@@ -1,10 +1,10 @@
-# Each people/NAME.csv is checked once, and again where it or the plan has changed: make -f checks.mk
-checked := $(patsubst %.csv,%.checked,$(wildcard people/*.csv))
+# Each people/NAME.jsonl is checked once, and again if it or the schema has changed: make -f checks.mk
+checked := $(patsubst %.jsonl,%.checked,$(wildcard people/*.jsonl))
 
 all: $(checked)
 
-%.checked: %.csv plan.json
-	neldrafi csv plan.json $<
+%.checked: %.jsonl people.schema.json
+	neldrafi check people.schema.json $<
 	touch $@
 
 .PHONY: all

@@ -4,16 +4,14 @@
     python3 tools/ecma_compare.py                  2,000 patterns, each on 12 texts, by the seed 1
     python3 tools/ecma_compare.py 500 7            other numbers of patterns and seeds
 
-It wants `node` on the path, and the built program `strkw_csv` (`rt run` in `crates/strkw_csv` builds it). A pattern is
-asked as the schema object of a column: the program refuses it, or answers of each text whether it matches. Node is
-asked for `new RegExp(pattern, "u")`, and whether it is found in the text.
+It wants `node` on the path, and the built program `neldrafi` (`rt run` in `crates/neldrafi` builds it). `neldrafi check`
+is given a schema with the pattern, and the texts as lines of JSON: it refuses the pattern, or reports the texts that do
+not match. Node is asked for `new RegExp(pattern, "u")`, and whether it is found in the text.
 
 Patterns are made by the grammar of ECMA-262, and about a third of them is then spoilt by a change of one character. One
 that Node takes and the program does not is told apart by name where it has what is not taken by design; any other
 difference is told, the shortest first, and the status is then 1. It is no part of the gate.
 """
-import csv
-import io
 import json
 import random
 import re
@@ -25,12 +23,10 @@ from concurrent.futures import ThreadPoolExecutor
 from pathlib import Path
 
 TOP = Path(__file__).resolve().parent.parent
-PROGRAM = TOP / "crates/strkw_csv/out/strkw_csv"
+PROGRAM = TOP / "crates/neldrafi/out/neldrafi"
 PATTERNS, SEED, TEXTS = 2000, 1, 12
 MOST_TOLD = 20
 REFUSED = " is not taken: "
-# The program counts lines as editors do.
-LINE_END = re.compile(r"\r\n|\r|\n")
 # What is taken by ECMA-262 and not here, by name.
 BY_DESIGN = [
     ("back reference", re.compile(r"\\[1-9]|\\k<")),
@@ -213,32 +209,21 @@ def node(rows):
     return json.loads(run.stdout)
 
 
-def records(texts):
-    """A CSV file with a record for each text, and the line at which each record begins."""
-    written = io.StringIO()
-    writer = csv.writer(written, quoting=csv.QUOTE_ALL, lineterminator="\n")
-    writer.writerow(["place", "text"])
-    starts = []
-    for place, text in enumerate(texts):
-        starts.append(len(LINE_END.findall(written.getvalue())) + 1)
-        writer.writerow([place, text])
-    return written.getvalue().encode(), starts
-
-
 def here(row, folder, name):
     """The same of the program."""
     pattern, texts = row
-    plan = Path(folder) / f"{name}.json"
-    plan.write_text(json.dumps({"draft": 7, "columns": {"text": {"pattern": pattern}}}))
-    given, starts = records(texts)
-    run = subprocess.run([PROGRAM, plan], input=given, stdout=subprocess.PIPE, stderr=subprocess.PIPE)
-    plan.unlink()
+    schema = Path(folder) / f"{name}.json"
+    schema.write_text(json.dumps({"pattern": pattern}))
+    given = "".join(f"{json.dumps(text)}\n" for text in texts).encode()
+    run = subprocess.run([PROGRAM, "check", "--as=jsonl", schema], input=given, stdout=subprocess.PIPE,
+                         stderr=subprocess.PIPE)
+    schema.unlink()
     if run.returncode == 2 and REFUSED in run.stderr.decode(errors="replace"):
         return None
     if run.returncode not in (0, 1):
         raise SystemExit(f"ecma_compare: {pattern!r}: {run.stderr.decode(errors='replace').strip()}")
-    missed = {int(line.split(b":", 1)[0]) for line in run.stdout.splitlines()}
-    return [start not in missed for start in starts]
+    missed = {int(line.split(b":")[1]) for line in run.stdout.splitlines()}
+    return [number not in missed for number in range(1, len(texts) + 1)]
 
 
 def by_design(pattern):

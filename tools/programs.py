@@ -4,7 +4,7 @@
     python3 tools/programs.py             the rows of all files in tools/programs, on what the last `rt ci` left built
     python3 tools/programs.py NAME ..     those of tools/programs/NAME.toml
 
-A file names its programs, as `strkw` (crates/strkw/out/strkw), `neldrafi csv` or `examples/parallel`, and has a table
+A file names its programs, as `strkw` (crates/strkw/out/strkw), `neldrafi check` or `examples/parallel`, and has a table
 `[[row]]` for each run. A run is in an empty folder of its own and has to end in 20 seconds. A row has these keys; all
 but `name` may be left out:
 

@@ -12,9 +12,9 @@ bindings/refused.c are run so too, by bindings/test_calls.
 The programs are run in the same way, on the input that is stored with each, with each growth refused, and with each
 read and write failing, interrupted or moving one byte. Where a call was made to fail a program has to end with the
 status of a fault and the fault's text, and what it has written is a beginning of its output, of `strkw` whole answers
-after any fault but one of writing; otherwise the whole. The later a call of `strkw` or of `strkw_csv` fails, the more
-they have written, and at last something: what stands before a fault is not held back. All but `strkw` may also try an
-interrupted call again, or do without a growth that was refused, and then end as if nothing had failed.
+after any fault but one of writing; otherwise the whole. The later a call of `strkw` fails, the more it has written, and
+at last something: what stands before a fault is not held back. `neldrafi` may also try an interrupted call again, or do
+without a growth that was refused, and then end as if nothing had failed.
 """
 import os
 import re
@@ -36,7 +36,7 @@ FAILED_TEST = 101
 OUT_OF_MEMORY = {b"error: %s\nthe test failed: its result gives status 1\n" % name
                  for name in (b"AllocError", b"Memory", b"AllocFailed { .. }")}
 # The programs, with the status of a fault.
-PROGRAMS = {"strkw": 1, "strkw_csv": 2, "strkw_config": 2, "neldrafi": 2}
+PROGRAMS = {"strkw": 1, "neldrafi": 2}
 WRITE_FAULT = "write failed"
 MOVE_FAULTS = re.compile(WRITE_FAULT + r"|(.+: )?read failed(: .+)?|.+ cannot be read: .+")
 # How a call of a program is made to fail, and what the program then says; nothing where it has to end well.
@@ -47,7 +47,7 @@ FAILINGS = {
     "SHORTEN_MOVE": ("reads and writes of one byte", None),
 }
 # The programs, and the calls of theirs, of which this holds: the later one fails, the more is written.
-GROWING = [(name, failing) for name in ("strkw", "strkw_csv") for failing in ("REFUSE_GROWTH", "FAIL_MOVE")]
+GROWING = [("strkw", failing) for failing in ("REFUSE_GROWTH", "FAIL_MOVE")]
 
 
 def say(line):

@@ -50,9 +50,9 @@ class Row:
     """A large input, what is written for it, and what the program says and ends with. Input and output are made when
     they are asked for, so that this script is small while the program runs."""
 
-    def __init__(self, name, given, wanted, said=b"", status=0, room=None, output=None, program="strkw", plan=None):
+    def __init__(self, name, given, wanted, said=b"", status=0, room=None, output=None, program="strkw", schema=None):
         self.name, self.given, self.wanted, self.said, self.status = name, given, wanted, said, status
-        self.room, self.output, self.program, self.plan = room, output, program, plan
+        self.room, self.output, self.program, self.schema = room, output, program, schema
 
 
 def four_errors(half):
@@ -127,32 +127,13 @@ def is_request(member, kind):
     return member == "instance" or member == "schema" and kind == "an object"
 
 
-def header_of(count):
-    """A first record that has one name so many times, and a record of so many empty fields."""
-    return b",".join([b"a"] * count) + b"\n" + b"," * (count - 1) + b"\n"
-
-
-EACH = {"draft": 7, "columns": {"a": {"pattern": "^[a-z]{1,60}$"}}, "duplicates": "each"}
-
-
 def bounded_rows(size):
-    """Lines whose values are not kept: three times their length has to be room enough, and what the program needs;
-    a plan that is compiled once, whatever the first record of a file is; and a document that is longer than its plan
-    lets it be, and a record."""
+    """Lines whose values are not kept: three times their length has to be room enough, and what the program needs."""
     for member, kind in product(MEMBERS, VALUES):
         if member != "schema" or kind != "an object":
             yield Row(f"{member}: {kind}", partial(line_with, member, kind, size),
                       partial(lambda ok: VALID if ok else BAD, is_request(member, kind)),
                       room=lambda longest: 3 * longest + 8 * MEGABYTE)
-    yield Row("a column 10,000 times", lambda: header_of(10_000),
-              lambda: b'2: a: /pattern: "" does not match "^[a-z]{1,60}$"\n' * 10_000, status=1, room=16 * MEGABYTE,
-              program="strkw_csv", plan=EACH)
-    yield Row("a record that is too long", lambda: b'a\n1\n"' + b"1" * size, bytes,
-              b"strkw_csv: 3: the record is longer than 1000 bytes\n", 2, room=8 * MEGABYTE, program="strkw_csv",
-              plan={"draft": 7, "columns": {"a": {}}, "limits": {"record": 1000}})
-    yield Row("a document that is too long", lambda: b"[" + b"1," * (size // 2), bytes,
-              b"strkw_config: the document is longer than 1000 bytes\n", 2, room=8 * MEGABYTE, program="strkw_config",
-              plan={"draft": 7, "places": {"/a": {}}, "limits": {"document": 1000}})
 
 
 NESTED = "(([a-z]{1,9}[0-9]{1,9})*-)*"
@@ -160,22 +141,17 @@ NESTED = "(([a-z]{1,9}[0-9]{1,9})*-)*"
 
 def growing_rows(times):
     """The inputs of strangers that were slow, so many times as large: what is asked is how time and memory grow."""
-    def csv(schema, **more):
-        """A row for `strkw_csv` with a plan of one column."""
-        return {"program": "strkw_csv", "plan": {"draft": 7, "columns": {"a": schema}, **more}}
+    def check(schema):
+        """A row for `neldrafi check` of lines of text by this schema."""
+        return {"program": "neldrafi", "schema": schema}
     size = times * MEGABYTE
     yield Row("nested arrays as `draft`", lambda: line_with("draft", "nested arrays", size), lambda: BAD)
     yield Row("an object as `fold`", lambda: line_with("fold", "an object", size), lambda: BAD)
-    yield Row("a field, and a pattern of nested loops", lambda: b"a\n" + b"a1" * (size // 80) + b"-\n", bytes,
-              **csv({"pattern": "^" + NESTED + "$"}))
-    yield Row("records, and a count of 128", lambda: b"a\n" + (b"x" * 30 + b"\n") * (size // 31), bytes,
-              **csv({"pattern": "^.{1,128}$"}))
-    yield Row("a pattern of many counts", lambda: b"a\n", bytes, None, 2, **csv({"pattern": "a{0,999}" * (30 * times)}))
-    yield Row("a column many times", lambda: header_of(10_000 * times),
-              lambda: b'2: a: /minLength: "" is shorter than 1 character\n' * (10_000 * times), status=1,
-              **csv({"minLength": 1}, duplicates="each", limits={"columns": 100_000}))
-    yield Row("a document", lambda: b'{"a":' + VALUES["nested arrays"](size) + b"}", bytes, program="strkw_config",
-              plan={"draft": 7, "places": {"/a": {}}})
+    yield Row("a line, and a pattern of nested loops", lambda: b"a1" * (size // 80) + b"-\n", bytes,
+              **check({"pattern": "^" + NESTED + "$"}))
+    yield Row("lines, and a count of 128", lambda: (b"x" * 30 + b"\n") * (size // 31), bytes,
+              **check({"pattern": "^.{1,128}$"}))
+    yield Row("a pattern of many counts", lambda: b"a\n", bytes, None, 2, **check({"pattern": "a{0,999}" * (30 * times)}))
 
 
 def print_growth(folder):
@@ -260,10 +236,10 @@ def outcome(row, program, given, written, longest=0):
     """Runs a row: status, output, standard error, seconds, and the peak of memory in bytes."""
     room = row.room(longest) if callable(row.room) else row.room
     words = [program]
-    if row.plan is not None:
-        plan = given.with_name("plan.json")
-        plan.write_text(json.dumps(row.plan))
-        words.append(plan)
+    if row.schema is not None:
+        schema = given.with_name("schema.json")
+        schema.write_text(json.dumps(row.schema))
+        words += ["check", "--as=text", schema]
     with open(given, "rb") as source, open(row.output if row.output == "/dev/full" else written, "wb") as sink:
         run = subprocess.Popen(words, stdin=source, stdout=sink, stderr=subprocess.PIPE, env={},
                                preexec_fn=lambda: (limited(room)(), os.close(1) if row.output == "closed" else None))

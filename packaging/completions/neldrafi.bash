@@ -4,12 +4,9 @@
 _neldrafi_options() {
     case $1 in
     text) echo --draft --output --quiet --help ;;
-    formats | requests) echo --output --help ;;
-    csv) echo --color --delimiter --keep-going --max-errors --no-header --output --progress --quiet --report --summary --help ;;
-    json) echo --color --max-errors --output --quiet --help ;;
+    formats) echo --output --help ;;
     check) echo --allow-unknown --as --color --document --draft --formats --max-errors --name --output --quiet --help ;;
-    explain) echo --draft --ignore --output --help ;;
-    plan) echo --delimiter --draft --no-header --output --records --help ;;
+    explain) echo --draft --output --help ;;
     *) echo --help --version ;;
     esac
 }
@@ -23,7 +20,7 @@ _neldrafi() {
     local command=${COMP_WORDS[0]} subcommand=${COMP_WORDS[1]} word=${COMP_WORDS[COMP_CWORD]}
     local before=${COMP_WORDS[COMP_CWORD - 1]} words=
     if [ "$COMP_CWORD" = 1 ]; then
-        words="text formats requests csv json check explain plan $(_neldrafi_options)"
+        words="text formats check explain $(_neldrafi_options)"
     elif [ "$before" = --draft ]; then
         words='4 6 7 2019-09 2020-12'
     elif [ "$before" = --output ]; then
@@ -34,7 +31,7 @@ _neldrafi() {
         words='json jsonl text'
     elif [ "$before" = --formats ]; then
         words='check annotate'
-    elif [[ $before == --@(delimiter|document|max-errors|name|records|ignore) ]]; then
+    elif [[ $before == --@(document|max-errors|name) ]]; then
         words=
     elif [[ $word == -* ]]; then
         words=$(_neldrafi_options "$subcommand")

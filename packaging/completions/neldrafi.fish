@@ -1,33 +1,21 @@
 # Completion of neldrafi for fish.
 
-set -l subcommands text formats requests csv json check explain plan
+set -l subcommands text formats check explain
 set -l none "not __fish_seen_subcommand_from $subcommands"
 
 complete -c neldrafi -f -n $none -a text -d 'Say whether texts are of a format'
 complete -c neldrafi -f -n $none -a formats -d 'List the formats'
-complete -c neldrafi -f -n $none -a requests -d 'Answer requests, one a line'
-complete -c neldrafi -f -n $none -a csv -d 'Check CSV files by a plan'
-complete -c neldrafi -f -n $none -a json -d 'Check JSON documents by a plan'
 complete -c neldrafi -f -n $none -a check -d 'Check files by a JSON Schema'
-complete -c neldrafi -f -n $none -a explain -d 'Say in words what a schema object checks'
-complete -c neldrafi -f -n $none -a plan -d 'Propose a plan for a CSV file'
+complete -c neldrafi -f -n $none -a explain -d 'Say in words what string keywords check'
 complete -c neldrafi -f -n $none -s V -l version -d 'The version'
 complete -c neldrafi -s h -l help -d 'Options and examples'
 complete -c neldrafi -f -n '__fish_seen_subcommand_from formats'
 set -l names "(neldrafi formats | string match -rg '^(\S+)' | tail -n +2)"
 complete -c neldrafi -f -n '__fish_seen_subcommand_from text' -a $names
-complete -c neldrafi -n '__fish_seen_subcommand_from text check explain plan' -x -l draft -a '4 6 7 2019-09 2020-12' -d 'The draft'
-complete -c neldrafi -n '__fish_seen_subcommand_from csv json check' -x -l color -a 'auto always never' -d 'When there are colours'
-complete -c neldrafi -n '__fish_seen_subcommand_from csv json check' -x -l max-errors -d 'Stop after so many messages'
-complete -c neldrafi -n '__fish_seen_subcommand_from text csv json check' -s q -l quiet -d 'No standard output'
-complete -c neldrafi -n '__fish_seen_subcommand_from csv plan' -x -l delimiter -d 'What parts the columns'
-complete -c neldrafi -n '__fish_seen_subcommand_from csv plan' -l no-header -d 'Name the columns by number'
-complete -c neldrafi -n '__fish_seen_subcommand_from csv' -l keep-going -d 'Take fields that are not UTF-8 as errors'
-complete -c neldrafi -n '__fish_seen_subcommand_from csv' -l progress -d 'Tell of every million records'
-complete -c neldrafi -n '__fish_seen_subcommand_from csv' -l summary -d 'Write a table of the errors'
-complete -c neldrafi -n '__fish_seen_subcommand_from csv' -r -l report -d 'Write a page about the errors'
-complete -c neldrafi -n '__fish_seen_subcommand_from plan' -x -l records -d 'Look at so many records'
-complete -c neldrafi -n '__fish_seen_subcommand_from explain' -x -l ignore -d 'Let a keyword pass'
+complete -c neldrafi -n '__fish_seen_subcommand_from text check explain' -x -l draft -a '4 6 7 2019-09 2020-12' -d 'The draft'
+complete -c neldrafi -n '__fish_seen_subcommand_from check' -x -l color -a 'auto always never' -d 'When there are colours'
+complete -c neldrafi -n '__fish_seen_subcommand_from check' -x -l max-errors -d 'Stop after so many messages'
+complete -c neldrafi -n '__fish_seen_subcommand_from text check' -s q -l quiet -d 'No standard output'
 complete -c neldrafi -n "not $none" -x -l output -a 'text json' -d 'The form of each line'
 complete -c neldrafi -n '__fish_seen_subcommand_from check' -l allow-unknown -d 'Ignore unknown keywords and formats'
 complete -c neldrafi -n '__fish_seen_subcommand_from check' -x -l as -a 'json jsonl text' -d 'What each file is'

@@ -7,15 +7,15 @@ from pathlib import Path
 from packages.rows import TOP, VERSION, files_below, having, run, shell, with_variables
 
 INSTALL = TOP / "tools/install"
-PROGRAMS = ["neldrafi", "strkw", "strkw_csv", "strkw_config"]
-SUBCOMMANDS = ["text", "formats", "requests", "csv", "json", "check", "explain", "plan"]
+PROGRAMS = ["neldrafi", "strkw"]
+SUBCOMMANDS = ["text", "formats", "check", "explain"]
 MAJOR = VERSION.split(".", maxsplit=1)[0]
 INSTALLED = sorted([
     *(f"bin/{program}" for program in PROGRAMS),
     "include/strkw.h", "lib/libstrkw.a", "lib/libstrkw.so", f"lib/libstrkw.so.{MAJOR}", f"lib/libstrkw.so.{VERSION}",
     "lib/pkgconfig/strkw.pc", "share/bash-completion/completions/neldrafi", "share/doc/neldrafi/LICENSE",
     "share/fish/vendor_completions.d/neldrafi.fish", "share/man/man1/neldrafi.1", "share/man/man1/strkw.1",
-    "share/man/man1/strkw_config.1", "share/man/man1/strkw_csv.1", "share/man/man3/strkw.3",
+    "share/man/man3/strkw.3",
     "share/neldrafi/manifest", "share/zsh/site-functions/_neldrafi",
 ])
 PAGES = ["man1/neldrafi.1", "man1/strkw.1", "man3/strkw.3"]
@@ -105,7 +105,7 @@ def completions(rows, prefix, options):
         rows.equal("bash completes part of a subcommand", completed("ch"), {"check"})
         rows.equal("bash completes a draft", completed("text", "--draft", "20"), {"2019-09", "2020-12"})
         rows.equal("bash completes a format", completed("text", "date"), {"date", "date-time"})
-        rows.equal("bash completes a file", completed("csv", str(prefix / "inc")), {*str(prefix / "include").split()})
+        rows.equal("bash completes a file", completed("check", str(prefix / "inc")), {*str(prefix / "include").split()})
         for subcommand, long in options.items():
             rows.equal(f"bash completes the options of {subcommand}", completed(subcommand, "--"), long)
     for program, name in OTHER_SHELLS.items():

@@ -7,7 +7,7 @@ from pathlib import Path
 from packages.rows import TOP, VERSION
 
 # What is released: the programs, and the library for C.
-RELEASED = ["neldrafi", "strkw", "strkw_config", "strkw_csv", "strkw_c"]
+RELEASED = ["neldrafi", "strkw", "strkw_c"]
 # Nothing of a release tells when it was made.
 CREATED = "1980-01-01T00:00:00Z"
 

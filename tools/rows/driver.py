@@ -16,7 +16,7 @@ import os
 from concurrent.futures import ProcessPoolExecutor, ThreadPoolExecutor
 from functools import partial
 
-from rows import files, grammars, keywords, kept, manifest, programs
+from rows import grammars, keywords, kept, manifest, programs, records
 from rows.section import Section
 
 
@@ -27,7 +27,7 @@ def sections_of(topic, package):
 
 # What makes sections, side by side.
 MAKERS = {**grammars.MAKERS, "keywords": partial(sections_of, "keywords", keywords),
-          "files": partial(sections_of, "files", files)}
+          "records": partial(sections_of, "records", records)}
 
 
 def made_by(name):

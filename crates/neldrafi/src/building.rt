@@ -5,15 +5,13 @@ use clap::builder::ValueParser;
 use clap::{Arg, ArgAction, Command};
 use std::alloc::{AllocError, Global};
 
-/// What an argument takes. The first three are known by their place, the others are options.
+/// What an argument takes. The first two are known by their place, the others are options.
 #[derive(Clone, Copy)]
 pub(crate) enum Takes {
     /// A word, which has to be given.
     Word,
     /// Any number of words.
     Words,
-    /// A word, or this one where none is given.
-    WordOr(&'static str),
     /// Nothing.
     Nothing,
     /// Nothing, and the option has this letter too.
@@ -48,7 +46,6 @@ impl Takes {
         match self {
             Takes::Word => argument.required(true),
             Takes::Words => argument.num_args(0usize..),
-            Takes::WordOr(word) => argument.default_value(word).hide_default_value(true),
             _ => self.set_option(argument.long(name)),
         }
     }
@@ -73,7 +70,7 @@ impl Takes {
                 .value_name(value)
                 .value_parser(words)
                 .default_value(default),
-            Takes::Word | Takes::Words | Takes::WordOr(_) => option,
+            Takes::Word | Takes::Words => option,
         }
     }
 }

@@ -2,16 +2,10 @@
 
 use std::alloc::AllocError;
 
-// What begins the colour of a file's name, magenta, and that of a place in the file, green; and what ends a colour
-// (ECMA-48, section 8.3.117).
-const NAME: &[u8] = b"\x1B[35m";
-
+// What begins the colour of what a message is about, green, and what ends a colour (ECMA-48, section 8.3.117).
 const PLACE: &[u8] = b"\x1B[32m";
 
 const END: &[u8] = b"\x1B[0m";
-
-// What stands behind the name of a file.
-const BEHIND_NAME: &[u8] = b": ";
 
 // Appends bytes in a colour.
 fn push_coloured(colour: &[u8], bytes: &[u8], out: &mut Vec<u8>) -> Result<(), AllocError> {
@@ -20,18 +14,7 @@ fn push_coloured(colour: &[u8], bytes: &[u8], out: &mut Vec<u8>) -> Result<(), A
     out.extend_from_slice(END)
 }
 
-/// Appends the label of a file, in its colour, where there is one.
-pub(crate) fn push_label(label: &[u8], out: &mut Vec<u8>) -> Result<(), AllocError> {
-    match label.strip_suffix(BEHIND_NAME) {
-        Some(name) => {
-            push_coloured(NAME, name, out)?;
-            out.extend_from_slice(BEHIND_NAME)
-        }
-        None => out.extend_from_slice(label),
-    }
-}
-
-/// Appends a line, in which what stands before the first colon, the place in the file, has its colour.
+/// Appends a line, in which what stands before the first colon, the name of the file, has its colour.
 pub(crate) fn push_line(line: &[u8], out: &mut Vec<u8>) -> Result<(), AllocError> {
     let place = line.split(|byte| *byte == b':').next().unwrap_or(line);
     match line.strip_prefix(place) {

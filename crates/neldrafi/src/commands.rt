@@ -1,12 +1,8 @@
 //! The command, and its subcommands: each a thin shell over a library.
 
 mod check;
-mod csv_files;
 mod explain;
 mod formats;
-mod json_files;
-mod plan;
-mod requests;
 mod text;
 
 use crate::building::{Row, make_all};
@@ -23,19 +19,15 @@ const NAME: &str = "neldrafi";
 const VERSION: &str = "0.1.0";
 
 // What it does.
-const ABOUT: &str = "Checks texts by the string keywords of JSON Schema";
+const ABOUT: &str = "Checks files by a JSON Schema, and texts by a format";
 
 // What its help ends with.
 const AFTER_HELP: &str = "\
 Examples:
   neldrafi text date 2024-02-29
   neldrafi formats
-  neldrafi requests requests.jsonl
-  neldrafi csv plan.json people.csv
-  neldrafi json plan.json server.json
   neldrafi check schema.json server.json events.jsonl
   neldrafi explain schema.json
-  neldrafi plan people.csv
 
 Status: 0 all valid, 1 errors, 2 faults";
 
@@ -44,24 +36,16 @@ Status: 0 all valid, 1 errors, 2 faults";
 enum Subcommand {
     Text,
     Formats,
-    Requests,
-    Csv,
-    Json,
     Check,
     Explain,
-    Plan,
 }
 
 // All of them, as help lists them.
 const SUBCOMMANDS: &[Subcommand] = &[
     Subcommand::Text,
     Subcommand::Formats,
-    Subcommand::Requests,
-    Subcommand::Csv,
-    Subcommand::Json,
     Subcommand::Check,
     Subcommand::Explain,
-    Subcommand::Plan,
 ];
 
 impl<'a> Row<Command<'a>> for Subcommand {
@@ -69,12 +53,8 @@ impl<'a> Row<Command<'a>> for Subcommand {
         match self {
             Subcommand::Text => text::command(alloc),
             Subcommand::Formats => formats::command(alloc),
-            Subcommand::Requests => requests::command(alloc),
-            Subcommand::Csv => csv_files::command(alloc),
-            Subcommand::Json => json_files::command(alloc),
             Subcommand::Check => check::command(alloc),
             Subcommand::Explain => explain::command(alloc),
-            Subcommand::Plan => plan::command(alloc),
         }
     }
 }
@@ -112,12 +92,8 @@ fn run_named(rt: &HostRuntime, name: &str, matches: &ArgMatches<'_>) -> Result<O
     match name {
         text::NAME => text::run(rt, matches),
         formats::NAME => formats::run(rt, matches),
-        requests::NAME => requests::run(rt, matches),
-        csv_files::NAME => csv_files::run(rt, matches),
-        json_files::NAME => json_files::run(rt, matches),
         check::NAME => check::run(rt, matches),
         explain::NAME => explain::run(rt, matches),
-        plan::NAME => plan::run(rt, matches),
         // The parser lets no other words pass.
         _ => Err(Fault::NoSubcommand),
     }

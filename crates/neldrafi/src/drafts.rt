@@ -1,5 +1,6 @@
 //! The drafts by the names that the command line has for them.
 
+use serde_json::Value;
 use strkw_report::Draft;
 
 /// The drafts, from the first to the last.
@@ -13,6 +14,15 @@ pub(crate) const DRAFTS: &[Draft] = &[
 
 /// Their names, in the same order.
 pub(crate) const DRAFT_NAMES: &[&str] = &["4", "6", "7", "2019-09", "2020-12"];
+
+// The URIs of their meta-schemas, in the same order (JSON Schema Core 2020-12, section 8.1.1).
+const META_SCHEMAS: &[&str] = &[
+    "http://json-schema.org/draft-04/schema",
+    "http://json-schema.org/draft-06/schema",
+    "http://json-schema.org/draft-07/schema",
+    "https://json-schema.org/draft/2019-09/schema",
+    "https://json-schema.org/draft/2020-12/schema",
+];
 
 /// The name of the draft that is taken where none is named.
 pub(crate) const DEFAULT_DRAFT_NAME: &str = "2020-12";
@@ -31,17 +41,6 @@ pub(crate) fn draft_name(draft: Draft) -> &'static str {
     }
 }
 
-/// The number that a plan has for a draft.
-pub(crate) fn draft_number(draft: Draft) -> u64 {
-    match draft {
-        Draft::Draft4 => 4,
-        Draft::Draft6 => 6,
-        Draft::Draft7 => 7,
-        Draft::Draft201909 => 201_909,
-        Draft::Draft202012 => 202_012,
-    }
-}
-
 /// The draft of a name. It is the last one where no name is given, or one that no draft has.
 pub(crate) fn draft_named(name: Option<&str>) -> Draft {
     for draft in DRAFTS {
@@ -50,4 +49,18 @@ pub(crate) fn draft_named(name: Option<&str>) -> Draft {
         }
     }
     DEFAULT_DRAFT
+}
+
+/// The draft whose meta-schema the `$schema` of a schema names, or else this one.
+pub(crate) fn draft_of_schema(schema: &Value, otherwise: Draft) -> Draft {
+    let Some(uri) = schema.get("$schema").and_then(Value::as_str) else {
+        return otherwise;
+    };
+    let uri = uri.strip_suffix("#").unwrap_or(uri);
+    for (draft, other) in DRAFTS.iter().zip(META_SCHEMAS) {
+        if uri == *other {
+            return *draft;
+        }
+    }
+    otherwise
 }

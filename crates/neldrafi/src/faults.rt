@@ -1,10 +1,8 @@
 //! Why a run, or the check of a file, ended early; and how that is told.
 
 use crate::inputs::InputFault;
-use std::alloc::{AllocError, AllocFailed, Global};
+use std::alloc::{AllocError, AllocFailed};
 use std::fmt;
-use strkw_shells::FileFault;
-use strkw_table::TableFault;
 
 /// How far a fault reaches.
 #[derive(Clone, Copy, Debug)]
@@ -44,14 +42,6 @@ pub(crate) enum Fault {
     Memory,
 }
 
-// How far a fault of the check of a file by a plan reaches: the whole run, where it is one of the plan.
-fn reach_of(fault: &FileFault) -> Reach {
-    match fault {
-        FileFault::PlanFile(_) | FileFault::Plan(_) | FileFault::Document(_) => Reach::Run,
-        _ => Reach::File,
-    }
-}
-
 impl Fault {
     /// What these words say; out of memory, where there was none for them.
     pub(crate) fn with_words(reach: Reach, words: Result<String, AllocError>) -> Fault {
@@ -59,31 +49,6 @@ impl Fault {
             Ok(words) => Fault::Told { reach, words },
             Err(_) => Fault::Memory,
         }
-    }
-
-    /// Why a file is not checked to its end by a plan.
-    pub(crate) fn of_check(alloc: Global, fault: &FileFault) -> Fault {
-        match fault {
-            FileFault::Memory => Fault::Memory,
-            _ => Fault::with_words(reach_of(fault), format!(in alloc; "{fault}")),
-        }
-    }
-
-    /// The same, of a fault that ends here.
-    pub(crate) fn of_ended(alloc: Global, fault: FileFault) -> Fault {
-        let told = Fault::of_check(alloc, &fault);
-        drop(fault);
-        told
-    }
-
-    /// Why the records of a CSV file are not read to their end.
-    pub(crate) fn of_table(alloc: Global, fault: TableFault) -> Fault {
-        let told = match &fault {
-            TableFault::Memory => Fault::Memory,
-            _ => Fault::with_words(Reach::File, format!(in alloc; "{fault}")),
-        };
-        drop(fault);
-        told
     }
 
     /// Whether nobody reads the standard output any more.

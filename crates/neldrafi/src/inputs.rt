@@ -2,11 +2,11 @@
 
 use crate::encodings::{Encoding, MARK};
 use crate::faults::{Fault, Reach};
+use neldrafi_check::Shown;
 use std::alloc::{AllocError, Global};
 use std::fs::File;
 use std::io::{BufRead, BufReader, Chain, Cursor, ErrorKind, Read, StdinLock};
 use std::{fmt, io};
-use strkw_plan::Shown;
 
 /// The name of standard input among files.
 pub(crate) const STANDARD_INPUT: &str = "-";
@@ -23,13 +23,6 @@ pub(crate) enum InputFault {
     Encoded(Encoding),
     /// The line of this number is not UTF-8.
     NotUtf8(u64),
-    /// The line of this number is no JSON.
-    NotJson {
-        /// The number of the line, from 1.
-        line: u64,
-        /// Why.
-        error: serde_json::Error,
-    },
     /// There are more lines than a `u64` counts.
     TooLong,
 }
@@ -40,9 +33,6 @@ impl fmt::Display for InputFault {
             InputFault::Unread(error) => write!(f, "read failed: {error}"),
             InputFault::Encoded(encoding) => write!(f, "{encoding}"),
             InputFault::NotUtf8(line) => write!(f, "{line}: the line is not UTF-8"),
-            InputFault::NotJson { line, error } => {
-                write!(f, "{line}: the line is not JSON: {error}")
-            }
             InputFault::TooLong => f.write_str("the file has too many lines"),
         }
     }
@@ -139,14 +129,6 @@ impl InputFile {
         self.bytes.get_ref().0.get_ref().as_slice()
     }
 
-    /// Another handle of the file, which stands where it is read; none of standard input.
-    pub(crate) fn twin(&self) -> Option<File> {
-        match self.bytes.get_ref().1 {
-            Source::Named(file) => file.try_clone().ok(),
-            Source::Standard(_) => None,
-        }
-    }
-
     /// Goes past a byte order mark in front, where nothing else was read yet.
     pub(crate) fn skip_mark(&mut self) {
         if self.head().starts_with(MARK) {
@@ -171,15 +153,6 @@ pub(crate) struct Line<'a> {
     pub number: u64,
     /// Its text.
     pub text: &'a str,
-}
-
-/// The bytes of a line of a file, without the line feed at its end.
-#[derive(Clone, Copy)]
-pub(crate) struct LineBytes<'a> {
-    /// Its number, from 1.
-    pub number: u64,
-    /// Its bytes.
-    pub bytes: &'a [u8],
 }
 
 /// The lines of a file. LF ends a line, and so does CR LF. The last line needs no end.
@@ -228,18 +201,6 @@ impl Lines {
             })),
             Err(_) => Err(Fault::Input(InputFault::NotUtf8(self.number))),
         }
-    }
-
-    /// The bytes of the next line without a line feed at its end, or `None` at the end of the file.
-    pub(crate) fn next_bytes(&mut self) -> Result<Option<LineBytes<'_>>, Fault> {
-        if !self.advance()? {
-            return Ok(None);
-        }
-        let bytes = self.bytes.as_slice();
-        Ok(Some(LineBytes {
-            number: self.number,
-            bytes: bytes.strip_suffix(b"\n").unwrap_or(bytes),
-        }))
     }
 
     /// Whether the next line has to be waited for: the bytes that are at hand end none.

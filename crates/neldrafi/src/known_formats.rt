@@ -3,7 +3,7 @@
 use std::alloc::{AllocError, Global};
 use strkw_companions::{Companion, companions_of};
 use strkw_formats::{BuiltinFormat, builtin_format};
-use strkw_keywords::Format;
+use strkw_keywords::{Checks, Format, NamedFormat};
 use strkw_report::Draft;
 
 /// A format that the command knows.
@@ -86,5 +86,14 @@ impl KnownFormat {
             KnownFormat::Builtin(format) => Ok(format.is_valid(text)),
             KnownFormat::Companion(companion) => companion.is_valid(alloc, text),
         }
+    }
+}
+
+/// The checks of these formats alone. It takes no memory.
+pub(crate) fn checks_of(formats: &[NamedFormat]) -> Checks<'_> {
+    Checks {
+        formats,
+        media_types: &[],
+        codecs: &[],
     }
 }

@@ -1,31 +1,22 @@
 //! One command over the libraries: `neldrafi SUBCOMMAND ..`. Each subcommand is a module of `commands`.
 #![tactic(auto)]
 
-mod bad_requests;
 mod building;
 mod colours;
-mod columns;
 mod commands;
+mod distinct;
 mod documents;
 mod drafts;
 mod encodings;
-mod errors;
 mod faults;
 mod file_kinds;
 mod files;
-mod html;
 mod inputs;
 mod known_formats;
-mod lines;
 mod options;
 mod outcome;
 mod output;
-mod plans;
-mod progress;
-mod report;
 mod schemas;
-mod strip;
-mod summary;
 mod telling;
 mod usage;
 

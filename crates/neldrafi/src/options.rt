@@ -7,7 +7,6 @@ use std::env;
 use std::env::VarError;
 use std::io::IsTerminal;
 use strkw_report::Draft;
-use strkw_table::{BrokenField, Header, Reading};
 
 // The name of the form of text, and that of lines of JSON.
 const TEXT: &str = "text";
@@ -29,12 +28,6 @@ const COLOR_NAMES: &[&str] = &[AUTO, ALWAYS, NEVER];
 
 // The variable by which the environment wants no colours (no-color.org).
 const NO_COLOR: &str = "NO_COLOR";
-
-/// The option for what parts columns.
-pub(crate) const DELIMITER: &str = "delimiter";
-
-/// The option for a file whose first record names no columns.
-pub(crate) const NO_HEADER: &str = "no-header";
 
 /// The form in which lines are written.
 #[derive(Clone, Copy, Debug, PartialEq, Eq)]
@@ -129,7 +122,7 @@ impl Wanted {
         Wanted {
             is_quiet: matches.get_flag(QUIET.name),
             is_coloured: is_coloured(rt, matches),
-            most_messages: matches.get_one::<u64>(MAX_ERRORS_NAME),
+            most_messages: matches.get_one::<u64>(MAX_ERRORS.name),
             form: OutputForm::of(matches),
         }
     }
@@ -143,12 +136,9 @@ pub(crate) const QUIET: Argument = Argument {
     help: "Write nothing to standard output: the status alone tells",
 };
 
-/// The name of the option `--max-errors`.
-pub(crate) const MAX_ERRORS_NAME: &str = "max-errors";
-
 /// The option `--max-errors`.
 pub(crate) const MAX_ERRORS: Argument = Argument {
-    name: MAX_ERRORS_NAME,
+    name: "max-errors",
     takes: Takes::Number("N"),
     conflicts: &[],
     help: "Stop after N messages about a file",
@@ -170,61 +160,6 @@ pub(crate) const DRAFT: Argument = Argument {
 pub(crate) fn draft_of(matches: &ArgMatches<'_>) -> Draft {
     draft_named(matches.get_str(DRAFT.name))
 }
-
-/// What the option `--delimiter` says: its word, but for `\t`, which is a tab.
-pub(crate) fn delimiter_said<'a>(matches: &ArgMatches<'a>) -> Option<&'a str> {
-    match matches.get_str(DELIMITER) {
-        Some("\\t") => Some("\t"),
-        word => word,
-    }
-}
-
-/// What names the columns, by the option `--no-header`.
-pub(crate) fn header_said(matches: &ArgMatches<'_>) -> Header {
-    if matches.get_flag(NO_HEADER) {
-        Header::Absent
-    } else {
-        Header::First
-    }
-}
-
-/// The option `--keep-going`.
-pub(crate) const KEEP_GOING: Argument = Argument {
-    name: "keep-going",
-    takes: Takes::Nothing,
-    conflicts: &[],
-    help: "Take a field of a checked column that is not UTF-8 as an error, and go on",
-};
-
-/// How a file is read whose plan says what parts its fields, by the options `--no-header` and `--keep-going`.
-pub(crate) fn reading_said(matches: &ArgMatches<'_>) -> Reading {
-    let broken = if matches.get_flag(KEEP_GOING.name) {
-        BrokenField::IsError
-    } else {
-        BrokenField::EndsCheck
-    };
-    Reading {
-        delimiter: None,
-        header: header_said(matches),
-        broken,
-    }
-}
-
-/// The option `--ignore`.
-pub(crate) const IGNORE: Argument = Argument {
-    name: "ignore",
-    takes: Takes::Values("KEYWORD"),
-    conflicts: &[],
-    help: "Let a keyword of this name pass, of which nothing is checked",
-};
-
-/// The file of the plan.
-pub(crate) const PLAN: Argument = Argument {
-    name: "PLAN",
-    takes: Takes::Word,
-    conflicts: &[],
-    help: "The file of the plan",
-};
 
 /// The files to check.
 pub(crate) const FILES: Argument = Argument {

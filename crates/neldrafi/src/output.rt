@@ -1,6 +1,6 @@
-//! Standard output: messages with a label before each, up to so many, and none where none are wanted.
+//! Standard output: messages, up to so many, and none where none are wanted.
 
-use crate::colours::{push_label, push_line};
+use crate::colours::push_line;
 use crate::faults::Fault;
 use crate::options::Wanted;
 use std::alloc::{AllocError, Global};
@@ -38,7 +38,6 @@ impl Failure {
 #[derive(Drop)]
 pub(crate) struct Output<'a> {
     rt: &'a HostRuntime,
-    label: &'a str,
     wanted: Wanted,
     lines: u64,
     is_in_line: bool,
@@ -46,11 +45,10 @@ pub(crate) struct Output<'a> {
 }
 
 impl<'a> Output<'a> {
-    /// What is written stands after the label on each line, and is what is wanted of it.
-    pub(crate) fn new(rt: &'a HostRuntime, label: &'a str, wanted: Wanted) -> Output<'a> {
+    /// Of each line, what is wanted of it is written.
+    pub(crate) fn new(rt: &'a HostRuntime, wanted: Wanted) -> Output<'a> {
         Output {
             rt,
-            label,
             wanted,
             lines: 0,
             is_in_line: false,
@@ -71,19 +69,16 @@ impl<'a> Output<'a> {
         false
     }
 
-    // Appends the label and the front of a line, or the whole line, in their colours where these are wanted.
+    // Appends the front of a line, or the whole line, in colours where these are wanted.
     fn push_front(&self, line: &[u8], out: &mut Vec<u8>) -> Result<(), AllocError> {
         if self.wanted.is_coloured {
-            push_label(self.label.as_bytes(), out)?;
             return push_line(line, out);
         }
-        out.extend_from_slice(self.label.as_bytes())?;
         out.extend_from_slice(line)
     }
 
-    // Appends these bytes to those that are to be written, with the label before each line. It ends before a line that
-    // may not begin.
-    fn push_labelled(&mut self, bytes: &[u8], out: &mut Vec<u8>) -> Result<(), AllocError> {
+    // Appends these bytes to those that are to be written. It ends before a line that may not begin.
+    fn push_lines(&mut self, bytes: &[u8], out: &mut Vec<u8>) -> Result<(), AllocError> {
         for line in bytes.split_inclusive(|byte| *byte == b'\n') {
             if self.is_in_line {
                 out.extend_from_slice(line)?;
@@ -108,16 +103,16 @@ impl<'a> Output<'a> {
 
     // Whether lines are written as they are, and all of them.
     fn is_plain(&self) -> bool {
-        self.label.is_empty() && self.wanted.most_messages.is_none() && !self.wanted.is_coloured
+        self.wanted.most_messages.is_none() && !self.wanted.is_coloured
     }
 
-    // Writes bytes with the label, up to so many lines, and in colours where these are wanted.
-    fn put_labelled(&mut self, bytes: &[u8]) -> io::Result<()> {
+    // Writes bytes, up to so many lines, and in colours where these are wanted.
+    fn put_lines(&mut self, bytes: &[u8]) -> io::Result<()> {
         if self.is_plain() {
             return self.put(bytes);
         }
         let mut out = Vec::new(self.rt.alloc());
-        self.push_labelled(bytes, &mut out)?;
+        self.push_lines(bytes, &mut out)?;
         self.put(&out)
     }
 }
@@ -125,7 +120,7 @@ impl<'a> Output<'a> {
 impl Write for Output<'_> {
     fn write(&mut self, bytes: &[u8]) -> io::Result<usize> {
         if self.failure.is_none() {
-            if let Err(e) = self.put_labelled(bytes) {
+            if let Err(e) = self.put_lines(bytes) {
                 self.failure = Some(Failure::of(&e));
             }
         }
@@ -159,7 +154,7 @@ impl FaultyWrite for Output<'_> {
 
 /// Writes a text to standard output. That nobody reads it is no fault.
 pub(crate) fn write_text(rt: &HostRuntime, text: &str) -> Result<(), Fault> {
-    let mut output = Output::new(rt, "", Wanted::all_lines());
+    let mut output = Output::new(rt, Wanted::all_lines());
     if output.write_all(text.as_bytes()).is_ok() {
         return Ok(());
     }

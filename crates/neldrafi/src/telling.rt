@@ -1,4 +1,4 @@
-//! What is told on standard error: faults, how far a check is, and bad requests; each on one line.
+//! What is told on standard error: faults, and where messages stop; each on one line.
 
 use crate::options::OutputForm;
 use neldrafi_check::{Datum, object};
@@ -32,10 +32,6 @@ pub(crate) enum Notice {
     Fault,
     /// That no more messages are written.
     Stopped,
-    /// How far a check is.
-    Progress,
-    /// Why a line is no request.
-    BadRequest,
 }
 
 impl Notice {
@@ -44,8 +40,6 @@ impl Notice {
         match self {
             Notice::Fault => "fault",
             Notice::Stopped => "stopped",
-            Notice::Progress => "progress",
-            Notice::BadRequest => "badRequest",
         }
     }
 }

@@ -5,8 +5,8 @@ use crate::outcome::Outcome;
 use crate::output::write_text;
 use clap::Error;
 use clap::error::ErrorKind;
+use neldrafi_check::push_shown;
 use std::alloc::{AllocError, Global};
-use strkw_plan::push_shown;
 
 // What the texts of the parser's errors begin with.
 const ERROR: &str = "error: ";

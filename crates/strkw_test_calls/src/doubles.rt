@@ -10,7 +10,6 @@ use strkw_coding::DecodeError;
 use strkw_keywords::{ContentCodec, Format, MediaTypeCheck};
 use strkw_pattern::{BuildRefusal, EngineBuilder, EngineFailure, Outcome, RegexEngine};
 use strkw_report::{Node, char_count};
-use strkw_table::{Checked, Watch};
 
 /// Admits the texts of even length, or all, or none.
 #[derive(Clone, Copy)]
@@ -243,12 +242,4 @@ impl<'a> Node for Name<'a> {
             None => None,
         }
     }
-}
-
-/// Looks at nothing of a check.
-#[derive(Drop)]
-pub struct Unwatched;
-
-impl Watch for Unwatched {
-    fn at(&mut self, _checked: Checked) {}
 }

@@ -1,4 +1,4 @@
-//! Asks the keywords, whole schema objects, requests and files what rows ask, and compares each answer with the lines
+//! Asks the keywords, whole schema objects, requests and the records of files what rows ask, and compares each answer with the lines
 //! that stand below its row. Prints the rows that are answered otherwise. An answer has every field of every error,
 //! refusal and note, and each call that says otherwise than another. `row.rt` tells what stands in a row.
 #![tactic(auto)]
@@ -6,9 +6,9 @@
 mod answers;
 mod asked;
 mod compiled;
-mod files;
 mod input;
 mod lists;
+mod records;
 mod row;
 mod rows;
 mod shown;
@@ -53,8 +53,8 @@ fn answer(alloc: Global, line: &str) -> Result<String, AllocError> {
 }
 
 fn push_answer(alloc: Global, row: &Value, out: &mut String) -> Result<(), AllocError> {
-    if let Some(plan) = row.get("plan") {
-        return files::push_told(alloc, row, plan, out);
+    if let Some(text) = row.get("records").and_then(Value::as_str) {
+        return records::push_records(alloc, row, text, out);
     }
     if let Some(parts) = row.get("input").and_then(Value::as_array) {
         return input::push_output(alloc, row, parts, out);

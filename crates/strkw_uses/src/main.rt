@@ -3,7 +3,6 @@
 
 mod answered;
 mod companions;
-mod document;
 mod engine;
 mod errors;
 mod lent_again;
@@ -35,7 +34,6 @@ fn main(rt: HostRuntime) -> Result<()> {
     print_article(&rt, alloc)?;
     print_ascii(&rt, alloc)?;
     print_companions(&rt, alloc)?;
-    print_document(&rt, alloc)?;
     print_answers(&rt, alloc)
 }
 
@@ -75,15 +73,6 @@ fn print_recognised(rt: &impl Print) -> Result<()> {
             recognised::is_of(Draft::Draft202012, name, text)
         )?;
     }
-    Ok(())
-}
-
-// A document with two numbers of articles, of which one is none, and with a date.
-fn print_document(rt: &impl Print, alloc: Global) -> Result<()> {
-    let plan =
-        r#"{"draft":7,"places":{"/from":{"format":"date"},"/items/0":{"format":"article"},"/items/1":{"format":"article"}}}"#;
-    let document = r#"{"from":"2024-02-29","items":["12345678","1234"]}"#;
-    print!(rt; "{}", document::messages_about(alloc, plan, document)?)?;
     Ok(())
 }
 

@@ -10,6 +10,7 @@ use crate::faults::{Fault, Reach};
 use crate::file_kinds::{FILE_KIND_NAMES, FileKind};
 use crate::files::outcome_of_fault;
 use crate::inputs::{InputFault, InputFile, STANDARD_INPUT};
+use crate::known_formats::checks_of;
 use crate::options::{
     COLOR, DRAFT, FILES, MAX_ERRORS, OUTPUT, OutputForm, QUIET, Wanted, draft_of,
 };
@@ -29,7 +30,6 @@ use strkw_ecma::EcmaPatterns;
 use strkw_keywords::NamedFormat;
 use strkw_pattern::RegexEngine;
 use strkw_report::Draft;
-use strkw_shells::checks_of;
 
 /// The name of the subcommand.
 pub(crate) const NAME: &str = "check";
@@ -215,8 +215,7 @@ impl<E: RegexEngine> SchemaCheck<'_, E> {
         let name = self.name_of(path);
         let shown = Shown(name);
         let label = format!(in rt.alloc(); "{shown}: ")?;
-        // Each line names its file itself.
-        let mut output = Output::new(rt, "", self.wanted);
+        let mut output = Output::new(rt, self.wanted);
         match self.check_file(rt, path, &mut output) {
             Ok(count) => Ok(Some(Outcome::of_errors(count))),
             Err(fault) => {

@@ -1,42 +1,45 @@
-//! `neldrafi explain`: what a schema object compiles to, in words.
+//! `neldrafi explain`: what the string keywords of a schema check, in words.
 
 use crate::building::{Argument, Takes, subcommand};
-use crate::faults::Fault;
-use crate::known_formats::KnownFormat;
-use crate::options::{DRAFT, IGNORE, OUTPUT, OutputForm, draft_of};
+use crate::documents::require_known;
+use crate::drafts::draft_of_schema;
+use crate::faults::{Fault, Reach};
+use crate::known_formats::{KnownFormat, checks_of};
+use crate::options::{DRAFT, OUTPUT, OutputForm, draft_of};
 use crate::outcome::Outcome;
 use crate::output::write_text;
-use crate::schemas::{compile, read_schema, require_keywords};
+use crate::schemas::{read_schema, why_of};
 use clap::{ArgMatches, Command};
-use neldrafi_check::{Datum, push_object};
-use serde_json::{Value, json};
+use neldrafi_check::{Datum, Shown, push_object};
+use serde_json::{Map, Value};
 use std::alloc::{AllocError, Global};
 use strkw_companions::companions_of;
 use strkw_ecma::EcmaPatterns;
-use strkw_keywords::NamedFormat;
+use strkw_keywords::{Context, NamedFormat, Options};
+use strkw_object::compile_strings;
 use strkw_pattern::{BuildRefusal, EngineBuilder, PatternOptimization, analyze_pattern};
-use strkw_plan::{Rules, Shown, Standing, standing_of};
-use strkw_report::Draft;
-use strkw_shells::checks_of;
+use strkw_report::{CompileError, CompileErrorKind, Draft, Location};
 
 /// The name of the subcommand.
 pub(crate) const NAME: &str = "explain";
 
-// The argument for the file of the schema object.
+// The argument for the file of the schema.
 const SCHEMA: &str = "SCHEMA";
 
 // What it does.
-const ABOUT: &str = "Says in words what a schema object checks";
+const ABOUT: &str = "Says in words what the string keywords of a JSON Schema check";
 
 // What its help ends with.
 const AFTER_HELP: &str = "\
-It writes a line `KEYWORD: WORDS` for each member of the schema object, and a line where no
-text can be valid. Behind them a fault tells why the schema is refused, and at which
-keyword. With `--output json` a line is an object with `keyword`, `kind` and `message`.
+The schema is of the draft that its `$schema` names, or else of `--draft`. It writes a line
+`KEYWORD: WORDS` for each of `format`, `minLength`, `maxLength`, `pattern`, `contentEncoding`,
+`contentMediaType` and `contentSchema` at its root, and a line if they leave no valid text.
+After them a fault tells which keywords of the schema are not known, or why one of these is
+refused. With `--output json` a line is an object with `keyword`, `kind` and `message`.
 
 Examples:
   neldrafi explain schema.json
-  neldrafi explain --draft 7 --ignore type schema.json";
+  neldrafi explain --draft 7 schema.json";
 
 // What it takes.
 const ARGUMENTS: &[Argument] = &[
@@ -44,10 +47,9 @@ const ARGUMENTS: &[Argument] = &[
         name: SCHEMA,
         takes: Takes::Word,
         conflicts: &[],
-        help: "The file of the schema object",
+        help: "The file of the schema",
     },
     DRAFT,
-    IGNORE,
     OUTPUT,
 ];
 
@@ -194,63 +196,52 @@ fn words_of_check(
     }
 }
 
-// What is said of a member of the schema object.
+// What is said of a keyword.
 #[derive(Drop)]
-struct Explanation {
-    keyword: String,
+struct Explanation<'a> {
+    keyword: &'a str,
     kind: &'static str,
     message: String,
 }
 
-// What a fault says. One that has no words of its own comes back.
-fn words_of_fault(fault: Fault) -> Result<String, Fault> {
-    match fault {
-        Fault::Told { words, .. } => Ok(words),
-        other => Err(other),
+impl<'a> Explanation<'a> {
+    // That of a keyword by which texts are checked.
+    fn checked(
+        alloc: Global,
+        draft: Draft,
+        keyword: &'a str,
+        value: &Value,
+    ) -> Result<Explanation<'a>, AllocError> {
+        Ok(Explanation {
+            keyword,
+            kind: "checked",
+            message: words_of_check(alloc, draft, keyword, value)?,
+        })
     }
-}
 
-// What is said of a keyword that is refused, unless it is ignored.
-fn words_of_other(alloc: Global, draft: Draft, keyword: &str) -> Result<String, Fault> {
-    let alone = json!(in alloc; {(keyword): null})?;
-    match require_keywords(alloc, draft, &[], &alone) {
-        Ok(()) => Ok(String::new(alloc)),
-        Err(fault) => words_of_fault(fault),
+    // That of a keyword that annotates.
+    fn annotation(alloc: Global, keyword: &'a str) -> Result<Explanation<'a>, AllocError> {
+        Ok(Explanation {
+            keyword,
+            kind: "annotation",
+            message: String::from_str(alloc, "an annotation: nothing is checked")?,
+        })
     }
-}
 
-// What is said of a keyword with this value.
-fn explain_keyword(
-    alloc: Global,
-    draft: Draft,
-    keyword: &str,
-    value: &Value,
-) -> Result<Explanation, Fault> {
-    let (kind, message) = match standing_of(draft, keyword) {
-        Some(Standing::Checked) => ("checked", words_of_check(alloc, draft, keyword, value)?),
-        Some(Standing::Annotation) => (
-            "annotation",
-            String::from_str(alloc, "an annotation: nothing is checked")?,
-        ),
-        Some(Standing::Unchecked) => ("unchecked", words_of_other(alloc, draft, keyword)?),
-        None => ("unknown", words_of_other(alloc, draft, keyword)?),
-    };
-    Ok(Explanation {
-        keyword: String::from_str(alloc, keyword)?,
-        kind,
-        message,
-    })
-}
+    // That no text can be valid.
+    fn folded(alloc: Global) -> Result<Explanation<'a>, AllocError> {
+        Ok(Explanation {
+            keyword: "all",
+            kind: "folded",
+            message: String::from_str(alloc, "no text can be valid: no length is left")?,
+        })
+    }
 
-impl Explanation {
-    // Appends the explanation on a line.
+    // Appends it on a line.
     fn push(&self, alloc: Global, form: OutputForm, out: &mut String) -> Result<(), AllocError> {
-        let (keyword, kind, message) = (self.keyword.as_str(), self.kind, self.message.as_str());
+        let (keyword, kind, message) = (self.keyword, self.kind, self.message.as_str());
         match form {
-            OutputForm::Text => {
-                let keyword = Shown(keyword);
-                writeln!(out, "{keyword}: {message}")
-            }
+            OutputForm::Text => writeln!(out, "{keyword}: {message}"),
             OutputForm::Json => {
                 let members = [
                     ("keyword", Datum::Text(keyword)),
@@ -263,32 +254,56 @@ impl Explanation {
     }
 }
 
-// Appends what is said of each member of a schema object.
+// What a draft does with a keyword about strings.
+#[derive(Clone, Copy)]
+enum Standing {
+    // Texts are checked by it.
+    Checked,
+    // It annotates.
+    Annotation,
+}
+
+// What a draft does with a keyword, if that is one of its keywords about strings.
+fn standing_of(draft: Draft, keyword: &str) -> Option<Standing> {
+    match (keyword, draft) {
+        ("format" | "minLength" | "maxLength" | "pattern", _) => Some(Standing::Checked),
+        ("contentEncoding" | "contentMediaType", Draft::Draft7) => Some(Standing::Checked),
+        (
+            "contentEncoding" | "contentMediaType" | "contentSchema",
+            Draft::Draft201909 | Draft::Draft202012,
+        ) => Some(Standing::Annotation),
+        _ => None,
+    }
+}
+
+// What is said of a keyword with this value, if it is about strings.
+fn explain_keyword<'a>(
+    alloc: Global,
+    draft: Draft,
+    keyword: &'a str,
+    value: &Value,
+) -> Result<Option<Explanation<'a>>, AllocError> {
+    match standing_of(draft, keyword) {
+        Some(Standing::Checked) => Ok(Some(Explanation::checked(alloc, draft, keyword, value)?)),
+        Some(Standing::Annotation) => Ok(Some(Explanation::annotation(alloc, keyword)?)),
+        None => Ok(None),
+    }
+}
+
+// Appends what is said of each keyword of a schema that is about strings.
 fn push_members(
     alloc: Global,
     draft: Draft,
-    schema: &Value,
+    members: &Map<String, Value>,
     form: OutputForm,
     out: &mut String,
-) -> Result<(), Fault> {
-    let Some(members) = schema.as_object() else {
-        return Ok(());
-    };
+) -> Result<(), AllocError> {
     for (keyword, value) in members.iter() {
-        explain_keyword(alloc, draft, keyword, value)?.push(alloc, form, out)?;
+        if let Some(explanation) = explain_keyword(alloc, draft, keyword, value)? {
+            explanation.push(alloc, form, out)?;
+        }
     }
     Ok(())
-}
-
-// Appends that no text can be valid.
-fn push_folded(alloc: Global, form: OutputForm, out: &mut String) -> Result<(), AllocError> {
-    let message = String::from_str(alloc, "no text can be valid: no length is left")?;
-    let folded = Explanation {
-        keyword: String::from_str(alloc, "all")?,
-        kind: "folded",
-        message,
-    };
-    folded.push(alloc, form, out)
 }
 
 // Appends what is said of a schema. The errors are those for which it is refused.
@@ -298,37 +313,68 @@ fn push_schema(
     schema: &Value,
     out: &mut String,
 ) -> Result<(), Fault> {
-    let (draft, form) = (draft_of(matches), OutputForm::of(matches));
-    push_members(alloc, draft, schema, form, out)?;
-    require_keywords(
-        alloc,
-        draft,
-        matches.get_strs(IGNORE.name).unwrap_or(&[]),
-        schema,
-    )?;
+    let form = OutputForm::of(matches);
+    let draft = draft_of_schema(schema, draft_of(matches));
+    let Some(members) = schema.as_object() else {
+        return require_boolean(alloc, schema);
+    };
+    push_members(alloc, draft, members, form, out)?;
+    require_known(alloc, draft, schema)?;
+    if is_folded(alloc, draft, members)? {
+        Explanation::folded(alloc)?.push(alloc, form, out)?;
+    }
+    Ok(())
+}
+
+// Refuses a schema that is neither an object nor true or false.
+fn require_boolean(alloc: Global, schema: &Value) -> Result<(), Fault> {
+    if schema.is_boolean() {
+        return Ok(());
+    }
+    let words = String::from_str(alloc, "the schema is not an object, nor true or false");
+    Err(Fault::with_words(Reach::Run, words))
+}
+
+// Whether no text can be valid by the string keywords of a schema.
+fn is_folded(alloc: Global, draft: Draft, members: &Map<String, Value>) -> Result<bool, Fault> {
     let mut formats = Vec::new(alloc);
     for companion in companions_of(draft) {
         let name = String::from_str(alloc, companion.as_str())?;
         let check = Box::new(alloc, *companion)?;
         formats.push(NamedFormat { name, check })?;
     }
-    if is_folded(alloc, draft, schema, &formats)? {
-        push_folded(alloc, form, out)?;
+    let mut options = Options::default();
+    options.validate_formats = Some(true);
+    options.ignore_unknown_formats = false;
+    let context = Context {
+        draft,
+        location: Location::root(alloc),
+        absolute: None,
+        options,
+        checks: checks_of(&formats),
+        builder: &EcmaPatterns,
+    };
+    match compile_strings(alloc, &context, members) {
+        Ok(keywords) => Ok(keywords.folds_to_false()),
+        Err(refusal) => Err(refusal_fault(alloc, refusal)),
     }
-    Ok(())
 }
 
-// Whether no text can be valid by a schema under the checks of these formats.
-fn is_folded(
-    alloc: Global,
-    draft: Draft,
-    schema: &Value,
-    formats: &[NamedFormat],
-) -> Result<bool, Fault> {
-    let mut rules = Rules::new(&EcmaPatterns);
-    rules.checks = checks_of(formats);
-    let keywords = compile(alloc, &rules, draft, schema)?;
-    Ok(keywords.folds_to_false())
+// The fault that tells which keyword is refused, and why.
+fn refusal_fault(alloc: Global, refusal: CompileError) -> Fault {
+    let told = match &refusal.kind {
+        CompileErrorKind::Memory => Fault::Memory,
+        _ => Fault::with_words(Reach::Run, words_of_refusal(alloc, &refusal)),
+    };
+    drop(refusal);
+    told
+}
+
+// Which keyword is refused, and why.
+fn words_of_refusal(alloc: Global, refusal: &CompileError) -> Result<String, AllocError> {
+    let why = why_of(alloc, refusal)?;
+    let (location, why) = (Shown(refusal.location.as_str()), Shown(&why));
+    format!(in alloc; "the schema is refused at #{location}: {why}")
 }
 
 // Writes what is said of a schema. The errors are those for which it is refused.

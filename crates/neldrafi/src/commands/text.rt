@@ -9,9 +9,8 @@ use crate::options::{DRAFT, OUTPUT, OutputForm, QUIET, Wanted, draft_of};
 use crate::outcome::Outcome;
 use crate::output::{Gathered, Output};
 use clap::{ArgMatches, Command};
-use neldrafi_check::{Datum, push_object};
+use neldrafi_check::{Datum, Shown, push_object};
 use std::alloc::{AllocError, Global};
-use strkw_plan::Shown;
 use strkw_report::Draft;
 use strsim::osa_distance;
 
@@ -191,7 +190,7 @@ impl Verdicts<'_, '_> {
 pub(crate) fn run(rt: &HostRuntime, matches: &ArgMatches<'_>) -> Result<Outcome, Fault> {
     let name = matches.get_str(FORMAT).unwrap_or("");
     let format = format_named(rt.alloc(), draft_of(matches), name)?;
-    let mut output = Output::new(rt, "", Wanted::of(rt, matches));
+    let mut output = Output::new(rt, Wanted::of(rt, matches));
     let mut verdicts = Verdicts {
         format,
         form: OutputForm::of(matches),

@@ -1,2 +1,0 @@
-mod PlaceLemmas
-pub mod SpotLemmas

@@ -1,7 +1,0 @@
-use Rattle.std.proofs.Common.{◌≡◌, ◌++◌, string_bytes}
-use Rattle.std.specs.List.{flat_map}
-use Rattle.strkw_plan.specs.Shown.{shown_char}
-use Rattle.strkw_plan.proofs.shown.push_shown.Given as goal
-
-abbrev pub invariant-loop-c : goal.invariant-loop-c
-invariant-loop-c l = string_bytes l.out ≡ string_bytes l.initial.out ++ flat_map shown_char l.yielded

@@ -1,9 +1,0 @@
-pub mod Broken
-pub mod Rows
-pub mod Fields
-pub mod Headers
-pub mod Ahead
-pub mod Columns
-pub mod Faults
-pub mod Gives
-pub mod Checks
