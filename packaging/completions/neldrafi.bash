@@ -5,7 +5,10 @@ _neldrafi_options() {
     case $1 in
     text) echo --draft --output --quiet --help ;;
     formats) echo --output --help ;;
-    check) echo --allow-unknown --as --color --document --draft --formats --max-errors --name --output --quiet --help ;;
+    check)
+        echo --allow-unknown --as --color --delimiter --document --draft --empty --formats --max-errors --name \
+            --no-header --output --quiet --help
+        ;;
     explain) echo --draft --output --help ;;
     *) echo --help --version ;;
     esac
@@ -28,10 +31,12 @@ _neldrafi() {
     elif [ "$before" = --color ]; then
         words='auto always never'
     elif [ "$before" = --as ]; then
-        words='json jsonl text'
+        words='json jsonl csv tsv text'
+    elif [ "$before" = --empty ]; then
+        words='absent text'
     elif [ "$before" = --formats ]; then
         words='check annotate'
-    elif [[ $before == --@(document|max-errors|name) ]]; then
+    elif [[ $before == --@(delimiter|document|max-errors|name) ]]; then
         words=
     elif [[ $word == -* ]]; then
         words=$(_neldrafi_options "$subcommand")

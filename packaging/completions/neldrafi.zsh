@@ -32,7 +32,10 @@ _neldrafi() {
     explain) _arguments $help $draft $output '*:file:_files' ;;
     check)
         _arguments $help $quiet $color $draft $most $output '--allow-unknown[ignore unknown keywords and formats]' \
-            '--as[what each file is]:kind:(json jsonl text)' '*--document[a further document]:URI=FILE:' \
+            '--as[what each file is]:kind:(json jsonl csv tsv text)' \
+            '--delimiter[what separates the fields of CSV]:character:' \
+            '--empty[what an empty field is]:what:(absent text)' '--no-header[the first record is data too]' \
+            '*--document[a further document]:URI=FILE:' \
             '--formats[whether formats are checked]:how:(check annotate)' '--name[the name of standard input]:name:' \
             '*:file:_files'
         ;;

@@ -1,5 +1,7 @@
 //! What files are.
 
+use strkw_records::Delimiter;
+
 /// What a file is.
 #[derive(Clone, Copy, Debug, PartialEq, Eq)]
 pub(crate) enum FileKind {
@@ -7,17 +9,23 @@ pub(crate) enum FileKind {
     Json,
     /// A JSON document on each line.
     JsonLines,
+    /// Records whose fields are separated by commas (RFC 4180), each an object.
+    Csv,
+    /// The same with tabs in place of commas.
+    Tsv,
     /// A string on each line.
     Text,
 }
 
 /// Their names on the command line.
-pub(crate) const FILE_KIND_NAMES: &[&str] = &["json", "jsonl", "text"];
+pub(crate) const FILE_KIND_NAMES: &[&str] = &["json", "jsonl", "csv", "tsv", "text"];
 
 // The ends of names that tell what a file is.
 const ENDINGS: &[(&str, FileKind)] = &[
     (".jsonl", FileKind::JsonLines),
     (".ndjson", FileKind::JsonLines),
+    (".csv", FileKind::Csv),
+    (".tsv", FileKind::Tsv),
     (".txt", FileKind::Text),
 ];
 
@@ -27,6 +35,8 @@ impl FileKind {
         match name {
             "json" => Some(FileKind::Json),
             "jsonl" => Some(FileKind::JsonLines),
+            "csv" => Some(FileKind::Csv),
+            "tsv" => Some(FileKind::Tsv),
             "text" => Some(FileKind::Text),
             _ => None,
         }
@@ -40,5 +50,13 @@ impl FileKind {
             }
         }
         FileKind::Json
+    }
+
+    /// The character that separates the fields of its records.
+    pub(crate) fn delimiter(self) -> Delimiter {
+        match self {
+            FileKind::Tsv => Delimiter::new(b'\t').unwrap_or(Delimiter::comma()),
+            _ => Delimiter::comma(),
+        }
     }
 }

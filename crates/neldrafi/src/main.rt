@@ -17,6 +17,7 @@ mod options;
 mod outcome;
 mod output;
 mod schemas;
+mod tables;
 mod telling;
 mod usage;
 

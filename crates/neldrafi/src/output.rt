@@ -61,12 +61,16 @@ impl<'a> Output<'a> {
         let Some(most) = self.wanted.most_messages else {
             return true;
         };
-        if self.lines < most {
-            self.lines += 1;
-            return true;
+        match self.lines.checked_add(1) {
+            Some(lines) if lines <= most => {
+                self.lines = lines;
+                true
+            }
+            _ => {
+                self.failure = Some(Failure::Stopped(most));
+                false
+            }
         }
-        self.failure = Some(Failure::Stopped(most));
-        false
     }
 
     // Appends the front of a line, or the whole line, in colours where these are wanted.

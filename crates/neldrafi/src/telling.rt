@@ -32,6 +32,8 @@ pub(crate) enum Notice {
     Fault,
     /// That no more messages are written.
     Stopped,
+    /// What may be a mistake.
+    Warning,
 }
 
 impl Notice {
@@ -40,6 +42,7 @@ impl Notice {
         match self {
             Notice::Fault => "fault",
             Notice::Stopped => "stopped",
+            Notice::Warning => "warning",
         }
     }
 }

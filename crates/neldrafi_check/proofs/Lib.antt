@@ -2,4 +2,5 @@ mod ObjectLemmas
 mod CutLemmas
 mod FileLemmas
 mod RunLemmas
+mod TableLemmas
 mod SaidLemmas

@@ -5,5 +5,6 @@ pub mod Objects
 pub mod Forms
 pub mod Messages
 pub mod Files
+pub mod Tables
 pub mod Faults
 pub mod machine

@@ -3,3 +3,4 @@ pub mod Cuts
 pub mod Lines
 pub mod Origins
 pub mod Runs
+pub mod Tables

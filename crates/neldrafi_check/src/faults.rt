@@ -1,7 +1,9 @@
 //! Why the check of a file ends early.
 
+use neldrafi_table::TableFault;
 use std::alloc::AllocError;
 use std::{fmt, io};
+use strkw_records::ReadFault;
 
 /// Why the check of a file ends early.
 #[derive(Debug, Drop)]
@@ -12,6 +14,8 @@ pub enum CheckFault {
     NotUtf8,
     /// The document is not JSON (RFC 8259), as this error says.
     NotJson(serde_json::Error),
+    /// The table cannot be read on, for this reason.
+    Table(TableFault),
     /// The file has more lines or errors than a `u64` counts.
     TooLong,
     /// The messages cannot be written.
@@ -44,12 +48,27 @@ impl From<io::Error> for CheckFault {
     }
 }
 
+impl From<TableFault> for CheckFault {
+    ghost use Rattle.neldrafi_check.specs.Faults.{GivesOfTable};
+
+    ghost from_gives = { GivesOfTable };
+
+    fn from(fault: TableFault) -> CheckFault {
+        match fault {
+            TableFault::Record(ReadFault::Read(e)) => CheckFault::from(e),
+            TableFault::Record(ReadFault::Memory) | TableFault::Memory => CheckFault::Memory,
+            fault => CheckFault::Table(fault),
+        }
+    }
+}
+
 impl fmt::Display for CheckFault {
     fn fmt<W: fmt::Write>(&self, f: &mut fmt::Formatter<W>) -> fmt::Result {
         match self {
             CheckFault::Unread(e) => write!(f, "read failed: {e}"),
             CheckFault::NotUtf8 => f.write_str("not UTF-8"),
             CheckFault::NotJson(e) => write!(f, "not JSON: {e}"),
+            CheckFault::Table(fault) => write!(f, "{fault}"),
             CheckFault::TooLong => f.write_str("too many lines or errors"),
             CheckFault::Write => f.write_str("write failed"),
             CheckFault::Memory => f.write_str("out of memory"),

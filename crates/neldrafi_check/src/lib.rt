@@ -5,11 +5,13 @@ mod cutting;
 mod document;
 mod faults;
 mod forms;
+mod gathering;
 mod kinds;
 mod lines;
 mod objects;
 mod origin;
 mod shown;
+mod tables;
 mod texts;
 mod values;
 
@@ -19,6 +21,7 @@ pub use forms::{ErrorForm, JsonObjects, TextLines};
 pub use lines::{LineKind, check_lines};
 pub use objects::{Datum, object, object_with, push_line, push_object};
 pub use shown::{Shown, push_shown};
+pub use tables::check_table;
 
 #[cfg(test)]
 mod tests;

@@ -13,7 +13,8 @@ ghost use Rattle.neldrafi_check.specs.Messages.{Adds};
 
 use crate::faults::CheckFault;
 use crate::forms::ErrorForm;
-use crate::origin::Origin;
+use crate::gathering::{PIECE, push_unread, sum, write_out};
+use crate::origin::{JsonLine, Origin};
 use crate::texts::{is_blank, read_value, without_end, without_place};
 use crate::values::push_errors;
 use json::Scratch;
@@ -23,9 +24,6 @@ use serde_json::Value;
 use std::alloc::{AllocError, Global};
 use std::io::{BufRead, BufReader, Read, Write};
 use strkw_pattern::RegexEngine;
-
-// So many bytes are read at once, and of messages so many are gathered before they are written.
-const PIECE: usize = 65536;
 
 /// What a line is.
 #[derive(Clone, Copy, Debug, PartialEq, Eq)]
@@ -102,7 +100,8 @@ impl<E: RegexEngine, F: ErrorForm> LineCheck<'_, E, F> {
         }
         match read_value(alloc, text, scratch)? {
             Some(value) => {
-                let mut origin = Origin::Line(number, Positions::new(alloc, text));
+                let positions = Positions::new(alloc, text);
+                let mut origin = Origin::Line(JsonLine { number, positions });
                 push_errors(alloc, self.schema, &mut origin, &value, self.form, out)
             }
             None => push_not_json(alloc, self.form, number, text, out),
@@ -158,21 +157,6 @@ fn push_not_json<F: ErrorForm>(
         }
         Ok(_) => unreachable!(),
     }
-}
-
-// Appends why a line has no value from a position on.
-fn push_unread<F: ErrorForm>(
-    alloc: Global,
-    form: &F,
-    at: Position,
-    why: &str,
-    out: &mut String,
-) -> Result<u64, AllocError>
-    ensures { IfOk result (λ count. Adds (UnreadTold (F.writes form.now) at.line count)
-        (string_bytes out.old) (string_bytes out.new)) }
-{
-    form.push_unread(alloc, at, why, out)?;
-    Ok(1)
 }
 
 /// Writes the errors of each line of a file, and answers how many there are. A line that is not UTF-8, or not JSON, is
@@ -277,27 +261,4 @@ fn write_due<R: Read + Drop, W: Write>(
         return write_out(out, writer);
     }
     Ok(())
-}
-
-// Writes and clears what was gathered.
-fn write_out<W: Write>(out: &mut String, writer: &mut W) -> Result<(), CheckFault>
-    ensures written { OnOk result
-        (Appends (W.contents writer.old) (W.contents writer.new) (string_bytes out.old)) }
-    ensures cleared { OnOk result (string_bytes out.new ≡ []) }
-{
-    if writer.write_all(out.as_bytes()).is_err() {
-        return Err(CheckFault::Write);
-    }
-    out.clear();
-    Ok(())
-}
-
-// The sum of two counts of errors.
-fn sum(count: u64, more: u64) -> Result<u64, CheckFault>
-    ensures { IfOk result (λ all. all ≡ count + more) }
-{
-    match count.checked_add(more) {
-        Some(all) => Ok(all),
-        None => Err(CheckFault::TooLong),
-    }
 }

@@ -2,6 +2,7 @@
 
 ghost use Rattle.std.specs.Prelude.{◌≡◌, IfOk};
 ghost use Rattle.neldrafi_check.specs.machine.Origins.{positions_of};
+ghost use Rattle.neldrafi_check.specs.Messages.{in_line};
 
 use neldrafi_position::{Position, Positions};
 use std::alloc::{AllocError, Global};
@@ -11,10 +12,17 @@ use std::alloc::{AllocError, Global};
 pub(crate) enum Origin<'a> {
     /// A document, with the positions in its text.
     Document(Positions<'a>),
-    /// A line of this number, with the positions in its text, which is JSON.
-    Line(u64, Positions<'a>),
+    /// A line that is a JSON text.
+    Line(JsonLine<'a>),
     /// A line of this number, which is the value.
     Front(u64),
+}
+
+/// A line that is a JSON text, with its number and the positions in it.
+#[derive(Drop)]
+pub(crate) struct JsonLine<'a> {
+    pub number: u64,
+    pub positions: Positions<'a>,
 }
 
 impl Origin<'_> {
@@ -25,17 +33,26 @@ impl Origin<'_> {
     {
         match self {
             Origin::Document(positions) => positions.position_of(alloc, location),
-            Origin::Line(line, positions) => {
-                let column = positions.position_of(alloc, location)?.column;
-                Ok(Position {
-                    line: *line,
-                    column,
-                })
-            }
-            Origin::Front(line) => Ok(Position {
-                line: *line,
+            Origin::Line(line) => line.position(alloc, location),
+            Origin::Front(number) => Ok(Position {
+                line: *number,
                 column: 1,
             }),
         }
+    }
+}
+
+impl JsonLine<'_> {
+    // The same of a line.
+    fn position(&mut self, alloc: Global, location: &str) -> Result<Position, AllocError>
+        ensures same { self.new ≡ self.old }
+        ensures position { IfOk result (λ at.
+            at ≡ in_line self.old.number self.old.positions location.now) }
+    {
+        let column = self.positions.position_of(alloc, location)?.column;
+        Ok(Position {
+            line: self.number,
+            column,
+        })
     }
 }

@@ -1,13 +1,18 @@
 //! What is written about files. A test whose name ends in `_under_refusal` may also end as out of memory where an
 //! allocation is refused.
 
-use super::{CheckFault, ErrorForm, JsonObjects, LineKind, TextLines, check_document, check_lines};
+use super::{
+    CheckFault, ErrorForm, JsonObjects, LineKind, TextLines, check_document, check_lines,
+    check_table,
+};
 use neldrafi_schema::{Config, Schema, SchemaErrorKind};
+use neldrafi_table::{EmptyField, Header, TableFault, TableForm, columns_of, open_table};
 use serde_json::Value;
 use std::alloc::{AllocError, Global};
 use std::io::Cursor;
 use std::test::Fail;
 use strkw_pattern::NoPatterns;
+use strkw_records::{Delimiter, ReadFault};
 
 // The value of a JSON text. The failure names a text that is none.
 fn value_of(alloc: Global, text: &'static str) -> Result<Value, Fail> {
@@ -22,6 +27,7 @@ fn value_of(alloc: Global, text: &'static str) -> Result<Value, Fail> {
 fn failure_of(fault: CheckFault) -> Fail {
     match fault {
         CheckFault::Memory | CheckFault::Write => Fail::from(AllocError),
+        CheckFault::Table(_) => Fail::new("a table"),
         CheckFault::NotJson(_) => Fail::new("not JSON"),
         CheckFault::NotUtf8 => Fail::new("not UTF-8"),
         _ => Fail::new("a device"),
@@ -128,4 +134,64 @@ fn objects_under_refusal(rt: HostRuntime) -> Result<(), Fail> {
         errors: 2,
     };
     is_written(rt.alloc(), SCHEMA, row, &JsonObjects { file: "f" })
+}
+
+// Whether what a table is found to have is written so, and so many errors are counted.
+fn table_is_written(
+    alloc: Global,
+    schema: &'static str,
+    file: &'static [u8],
+    written: &'static str,
+    errors: u64,
+) -> Result<(), Fail> {
+    let document = value_of(alloc, schema)?;
+    let config = Config::new(&NoPatterns);
+    let compiled = match Schema::compile(alloc, &document, &config) {
+        Ok(compiled) => compiled,
+        Err(refusal) if matches!(refusal.kind, SchemaErrorKind::Memory) => {
+            return Err(Fail::from(AllocError));
+        }
+        Err(_) => return Err(Fail::new(schema)),
+    };
+    let mut bytes = Vec::new(alloc);
+    bytes.extend_from_slice(file)?;
+    let form = TableForm {
+        delimiter: Delimiter::comma(),
+        header: Header::First,
+        empty: EmptyField::Absent,
+    };
+    let mut table = match open_table(alloc, Cursor::new(bytes), form) {
+        Ok(table) => table,
+        Err(TableFault::Memory | TableFault::Record(ReadFault::Memory)) => {
+            return Err(Fail::from(AllocError));
+        }
+        Err(_) => return Err(Fail::new("no table")),
+    };
+    let columns = columns_of(alloc, &document, &table.names)?;
+    let mut out = Vec::new(alloc);
+    match check_table(
+        alloc,
+        &compiled,
+        &columns,
+        &mut table.rows,
+        &LINES,
+        &mut out,
+    ) {
+        Ok(count) if count == errors && out.as_slice() == written.as_bytes() => Ok(()),
+        Ok(_) => Err(Fail::new(written)),
+        Err(fault) => Err(failure_of(fault)),
+    }
+}
+
+#[test]
+fn tables_under_refusal(rt: HostRuntime) -> Result<(), Fail> {
+    let schema = r#"{"properties":{"n":{"type":"integer","maximum":5},"t":{"maxLength":1}}}"#;
+    let written = concat!(
+        "f:2:1: /n: 7 is greater than the maximum of 5\n",
+        "f:2:1: /t: \"ab\" is longer than 1 character\n",
+        "f:4:1: expected 2 fields, found 1\n",
+        "f:5:1: field 1 is not UTF-8\n",
+    );
+    let file = b"n,t\n7,ab\n\n1\n\xFF,x\n5,\n";
+    table_is_written(rt.alloc(), schema, file, written, 4)
 }

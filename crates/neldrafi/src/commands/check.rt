@@ -17,12 +17,17 @@ use crate::options::{
 use crate::outcome::Outcome;
 use crate::output::{FaultyWrite, Output};
 use crate::schemas::read_schema;
+use crate::tables::{
+    DELIMITER, EMPTY, NO_HEADER, TableOptions, columns_by, fault_of as table_fault, warn,
+};
 use crate::telling::Subject;
 use clap::{ArgMatches, Command};
 use neldrafi_check::{
     CheckFault, ErrorForm, JsonObjects, LineKind, Shown, TextLines, check_document, check_lines,
+    check_table,
 };
 use neldrafi_schema::{Config, Schema};
+use neldrafi_table::open_table;
 use serde_json::Value;
 use std::alloc::{AllocError, Global};
 use strkw_companions::companions_of;
@@ -64,15 +69,19 @@ const ABOUT: &str = "Checks files by a JSON Schema";
 // What its help ends with.
 const AFTER_HELP: &str = "\
 The schema is of the draft that its `$schema` names, or else of `--draft`. A file is JSON;
-if its name ends in `.jsonl` or `.ndjson`, each of its lines is; if it ends in `.txt`, each
-line is a string. An error is a line `FILE:LINE:COLUMN: LOCATION: TEXT`. LOCATION is a JSON
-pointer, and is left out for the root. With `--output json` it is an object with `file`,
-`line`, `position`, `location`, `keyword`, `kind`, `message` and `instance`.
+if its name ends in `.jsonl` or `.ndjson`, each of its lines is; if it ends in `.csv` or
+`.tsv`, each record is an object of its columns, and a field is null, a boolean or a number
+if the `type` of its column has these; if it ends in `.txt`, each line is a string. An error
+is a line `FILE:LINE:COLUMN: LOCATION: TEXT`, of a record with the position at which the
+record begins. LOCATION is a JSON pointer, and is left out for the root. With `--output json`
+it is an object with `file`, `line`, `position`, `location`, `keyword`, `kind`, `message` and
+`instance`.
 
 Examples:
   neldrafi check schema.json server.json
   neldrafi check --output json schema.json events.jsonl
   neldrafi check --as jsonl schema.json < events
+  neldrafi check --delimiter ';' person.json people.csv
   neldrafi check --document https://example.com/port=port.json schema.json server.json";
 
 // What it takes.
@@ -100,6 +109,7 @@ const ARGUMENTS: &[Argument] = &[
         help: "What each file is, whatever its name",
     },
     COLOR,
+    DELIMITER,
     Argument {
         name: DOCUMENT,
         takes: Takes::Values("URI=FILE"),
@@ -107,6 +117,7 @@ const ARGUMENTS: &[Argument] = &[
         help: "A further document, to which references lead by its URI",
     },
     DRAFT,
+    EMPTY,
     Argument {
         name: FORMATS,
         takes: Takes::OneOf {
@@ -124,6 +135,7 @@ const ARGUMENTS: &[Argument] = &[
         conflicts: &[],
         help: "The name of standard input, in messages and for what it is",
     },
+    NO_HEADER,
     OUTPUT,
     QUIET,
 ];
@@ -133,10 +145,21 @@ pub(crate) fn command<'a>(alloc: Global) -> Result<Command<'a>, AllocError> {
     subcommand(alloc, NAME, ABOUT, AFTER_HELP, ARGUMENTS)
 }
 
+// A file to check.
+#[derive(Drop)]
+struct OpenedFile<'a> {
+    kind: FileKind,
+    file: InputFile,
+    subject: Subject<'a>,
+}
+
 // What files are checked by, and how.
 #[derive(Drop)]
 struct SchemaCheck<'a, E: RegexEngine> {
     schema: &'a Schema<'a, E>,
+    // The schema as it is written.
+    document: &'a Value,
+    tables: TableOptions,
     // What each file is, if its name does not tell.
     kind: Option<FileKind>,
     // The name of standard input.
@@ -154,26 +177,60 @@ impl<E: RegexEngine> SchemaCheck<'_, E> {
         }
     }
 
-    // Writes the errors of a file of this kind in a form.
+    // Writes the errors of a file in a form.
     fn check_as<F: ErrorForm>(
         &self,
-        alloc: Global,
-        kind: FileKind,
-        file: InputFile,
+        rt: &HostRuntime,
+        opened: OpenedFile<'_>,
         form: &F,
         output: &mut Output<'_>,
     ) -> Result<u64, Fault>
         requires { IsCompiled E.outcome (lists_in admits accepts is_encoding decoding
             self.now.schema.now) self.now.schema.now }
     {
-        let checked = match kind {
+        let (alloc, file) = (rt.alloc(), opened.file);
+        let checked = match opened.kind {
             FileKind::Json => check_document(alloc, self.schema, file, form, output),
             FileKind::JsonLines => {
                 check_lines(alloc, self.schema, LineKind::Json, file, form, output)
             }
             FileKind::Text => check_lines(alloc, self.schema, LineKind::Text, file, form, output),
+            FileKind::Csv | FileKind::Tsv => {
+                return self.check_records(rt, OpenedFile { file, ..opened }, form, output);
+            }
         };
         match checked {
+            Ok(errors) => Ok(errors),
+            Err(fault) => Err(fault_of(alloc, fault, output)),
+        }
+    }
+
+    // Writes the errors of the records of a table in a form.
+    fn check_records<F: ErrorForm>(
+        &self,
+        rt: &HostRuntime,
+        opened: OpenedFile<'_>,
+        form: &F,
+        output: &mut Output<'_>,
+    ) -> Result<u64, Fault>
+        requires { IsCompiled E.outcome (lists_in admits accepts is_encoding decoding
+            self.now.schema.now) self.now.schema.now }
+    {
+        let alloc = rt.alloc();
+        let table_form = self.tables.form(opened.kind);
+        let mut table = match open_table(alloc, opened.file, table_form) {
+            Ok(table) => table,
+            Err(fault) => return Err(table_fault(alloc, fault)),
+        };
+        let columns = columns_by(alloc, self.document, &table.names)?;
+        warn(
+            rt,
+            self.wanted.form,
+            opened.subject,
+            self.document,
+            &columns,
+        );
+        match check_table(alloc, self.schema, &columns, &mut table.rows, form, output) {
             Ok(errors) => Ok(errors),
             Err(fault) => Err(fault_of(alloc, fault, output)),
         }
@@ -184,6 +241,7 @@ impl<E: RegexEngine> SchemaCheck<'_, E> {
         &self,
         rt: &HostRuntime,
         path: &str,
+        subject: Subject<'_>,
         output: &mut Output<'_>,
     ) -> Result<u64, Fault>
         requires { IsCompiled E.outcome (lists_in admits accepts is_encoding decoding
@@ -192,17 +250,17 @@ impl<E: RegexEngine> SchemaCheck<'_, E> {
         let mut file = InputFile::open(rt, path)?;
         let name = self.name_of(path);
         let kind = self.kind.unwrap_or(FileKind::of_name(name));
-        if kind != FileKind::Text {
+        if matches!(kind, FileKind::Json | FileKind::JsonLines) {
             file.skip_mark();
         }
-        let alloc = rt.alloc();
+        let opened = OpenedFile {
+            kind,
+            file,
+            subject,
+        };
         match self.wanted.form {
-            OutputForm::Text => {
-                self.check_as(alloc, kind, file, &TextLines { file: name }, output)
-            }
-            OutputForm::Json => {
-                self.check_as(alloc, kind, file, &JsonObjects { file: name }, output)
-            }
+            OutputForm::Text => self.check_as(rt, opened, &TextLines { file: name }, output),
+            OutputForm::Json => self.check_as(rt, opened, &JsonObjects { file: name }, output),
         }
     }
 
@@ -215,16 +273,14 @@ impl<E: RegexEngine> SchemaCheck<'_, E> {
         let name = self.name_of(path);
         let shown = Shown(name);
         let label = format!(in rt.alloc(); "{shown}: ")?;
+        let subject = Subject {
+            file: Some(name),
+            label: &label,
+        };
         let mut output = Output::new(rt, self.wanted);
-        match self.check_file(rt, path, &mut output) {
+        match self.check_file(rt, path, subject, &mut output) {
             Ok(count) => Ok(Some(Outcome::of_errors(count))),
-            Err(fault) => {
-                let subject = Subject {
-                    file: Some(name),
-                    label: &label,
-                };
-                outcome_of_fault(rt, subject, self.wanted, fault)
-            }
+            Err(fault) => outcome_of_fault(rt, subject, self.wanted, fault),
         }
     }
 
@@ -309,6 +365,8 @@ fn check_by(
     };
     let check = SchemaCheck {
         schema: &compiled,
+        document: schema,
+        tables: TableOptions::of(rt.alloc(), matches)?,
         kind: matches.get_str(AS).and_then(FileKind::named),
         stdin_name: matches.get_str(STDIN_NAME).unwrap_or(STANDARD_INPUT),
         wanted: Wanted::of(rt, matches),

@@ -5,5 +5,5 @@ use Rattle.neldrafi_check.specs.declared.origin.Origin.TheVariants.{Document, Fr
 
 abbrev pub positions_of : Origin → Positions
 positions_of (Document text) = in_text text
-positions_of (Line number text) = in_line number text
+positions_of (Line line) = in_line line.number line.positions
 positions_of (Front number) = at_front number

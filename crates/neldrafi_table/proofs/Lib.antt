@@ -1,0 +1,5 @@
+mod HeaderLemmas
+mod KeywordLemmas
+mod ReadingLemmas
+mod ObjectLemmas
+mod TableLemmas

@@ -1,0 +1,14 @@
+use Rattle.std.proofs.Common.{◌≡◌, drop, take}
+use Rattle.csv.specs.Records.{AllText, fields_of}
+use Rattle.serde_json.specs.View.{members_view}
+use Rattle.neldrafi_table.specs.Columns.{columns_seen}
+use Rattle.neldrafi_table.specs.Objects.{with_fields}
+use Rattle.neldrafi_table.proofs.rows.put_fields.Given as goal
+
+-- with the fields that are left, the object is the one with all of them; those before are UTF-8
+abbrev pub invariant-loop-at : goal.invariant-loop-at
+invariant-loop-at l = record {
+  put : with_fields l.empty (columns_seen (drop l.at l.columns)) (drop l.at (fields_of l.row)) (members_view l.members.entries)
+      ≡ with_fields l.empty (columns_seen l.columns) (fields_of l.row) (members_view l.initial.members.entries);
+  text : AllText (take l.at (fields_of l.row));
+}
