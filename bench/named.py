@@ -172,8 +172,6 @@ TABLES = {
         "To build, microseconds": "µs", "To search, nanoseconds a byte": "ns a byte",
     }, of_building, labels=2),
     "characters": Entry(topic("characters"), "ns", of_characters, ratio=(COUNT, OF_RUST)),
-    "records": Entry(None, {"MB": "MB", "Here, ms": "ms", "`csv::Reader`, ms": "ms"},
-                     ratio=("Here, ms", "`csv::Reader`, ms")),
     "requests": Entry(takers.REQUEST_LINES, {
         "Bytes a line": "bytes", "Requests a second": "a second", "MB a second": "MB/s",
     }, by({"Requests a second": "{}/requests", "MB a second": "{}/MB", RATIO: "{}/ratio"}, REQUEST_KINDS)),

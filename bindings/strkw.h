@@ -90,8 +90,9 @@ uint8_t strkw_answer(const uint8_t *requests, size_t count, uint8_t *out, size_t
 
 /* Checks many texts by one schema object, which is compiled once: JSON, of a draft.
    A pattern is one of ECMA-262 in Unicode mode, of a part of its syntax: no back reference, 2,000 characters, groups
-   250 deep, counts of 5,000 and 5,200 steps at most. To compile it takes up to some 12 milliseconds; a search then
-   takes a bounded number of steps for each character of a text.
+   250 deep, counts of 5,000 and 5,200 steps at most. A backslash may also stand before any other character of ASCII
+   that is no letter and no digit, as in \_ and \@, and counts as four characters with it. To compile it takes up to
+   some 12 milliseconds; a search then takes a bounded number of steps for each character of a text.
    The texts stand one after the other: text i begins at texts[ends[i - 1]], the first at texts[0], and ends before
    texts[ends[i]].
    verdicts has as much room as there are ends, and overlaps nothing else.

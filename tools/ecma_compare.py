@@ -6,7 +6,12 @@
 
 It wants `node` on the path, and the built program `neldrafi` (`rt run` in `crates/neldrafi` builds it). `neldrafi check`
 is given a schema with the pattern, and the texts as lines of JSON: it refuses the pattern, or reports the texts that do
-not match. Node is asked for `new RegExp(pattern, "u")`, and whether it is found in the text.
+not match. Node is asked for `new RegExp(form, "u")` of the pattern's strict form, and whether it is found in the text.
+
+The strict form is the pattern, but for a backslash before a character of ASCII that is no letter and no digit, and that
+mode `u` does not let stand there: in the place of both it has `\\x` and two digits. Of a pattern with such an escape
+Node is also asked for `new RegExp(pattern)`, if what the pattern has means the same without the flag, on texts with no
+character past U+FFFF.
 
 Patterns are made by the grammar of ECMA-262, and about a third of them is then spoilt by a change of one character. One
 that Node takes and the program does not is told apart by name where it has what is not taken by design; any other
@@ -37,13 +42,15 @@ BY_DESIGN = [
 # A match of Node that begins between the two halves of a surrogate pair is none: ECMA-262 2024 (RegExpBuiltinExec,
 # section 22.2.7.2) searches over characters there, and V8 finds `\B` within one. Then each place between characters is
 # asked alone.
+# What means something else without the flag `u`, or stands for a character past U+FFFF.
+OF_MODE_U = re.compile(r"\\[pP]|\\u\{|\\u[dD][89a-fA-F]|[\U00010000-\U0010ffff]")
 NODE = r"""
 const halves = (text, at) => /[\uD800-\uDBFF]/.test(text[at - 1] ?? "") && /[\uDC00-\uDFFF]/.test(text[at] ?? "");
-const told = [];
+const told = [], plain = [];
 let within = 0;
-for (const [pattern, texts] of JSON.parse(require("fs").readFileSync(0, "utf8"))) {
+for (const [pattern, form, isPlain, texts] of JSON.parse(require("fs").readFileSync(0, "utf8"))) {
   try {
-    const search = new RegExp(pattern, "u"), here = new RegExp(pattern, "uy");
+    const search = new RegExp(form, "u"), here = new RegExp(form, "uy");
     const at = (text, place) => { here.lastIndex = place; return here.test(text); };
     told.push(texts.map(text => {
       const found = search.exec(text);
@@ -52,14 +59,18 @@ for (const [pattern, texts] of JSON.parse(require("fs").readFileSync(0, "utf8"))
       return [...Array(text.length + 1).keys()].some(place => !halves(text, place) && at(text, place));
     }));
   } catch (e) { told.push(null); }
+  const unflagged = isPlain && told.at(-1) !== null ? new RegExp(pattern) : null;
+  plain.push(unflagged && texts.map(text => /[\uD800-\uDFFF]/.test(text) ? null : unflagged.test(text)));
 }
-console.log(JSON.stringify([told, within]));
+console.log(JSON.stringify([told, plain, within]));
 """
 # Characters near the borders of what classes and assertions tell apart.
 LETTERS = "abcxyzABZ019_-"
 OTHERS = (" \t\n\r\u2028\u2029\u00a0\ufeff\u0085\u00e9\u017f\u212a\u0391\u03c9\u0301\u0663\u01c5\u4e2d"
           "\U0001f600\U0001f601/:@[`{.,=!#&~\"'<>;%")
 SYNTAX = "^$\\.*+?()[]{}|/"
+# Of ASCII no letter, no digit and none of those: behind a backslash they are no escapes of mode `u`.
+SIGNS = "-_@ \"#'!%&,:;<=>`~\t\n"
 ESCAPES = ["\\d", "\\D", "\\s", "\\S", "\\w", "\\W", "\\n", "\\t", "\\r", "\\f", "\\v", "\\0", "\\cA", "\\x41",
            "\\u0061", "\\u{62}", "\\u{1F600}", "\\uD83D\\uDE00", "\\u2028"]
 # Properties, whose answers on the characters here are the same in each version of Unicode since 15.
@@ -93,8 +104,10 @@ class Maker:
         kind = self.random.random()
         if kind < 0.75:
             return self.random.choice(LETTERS)
-        if kind < 0.9:
+        if kind < 0.88:
             return self.random.choice([character for character in OTHERS if character not in SYNTAX])
+        if kind < 0.92:
+            return "\\" + self.random.choice(SIGNS)
         return "\\" + self.random.choice(SYNTAX)
 
     def class_atom(self):
@@ -106,6 +119,8 @@ class Maker:
             return self.random.choice(PROPERTIES)
         if kind < 0.34:
             return self.random.choice(["\\b", "\\-", "\\]", "\\^", "^", "-", ".", "$", "(", "*", "\\\\"])
+        if kind < 0.38:
+            return "\\" + self.random.choice(SIGNS)
         return self.random.choice(LETTERS + OTHERS.replace("[", ""))
 
     def ranges(self):
@@ -202,15 +217,41 @@ class Maker:
         return pattern, ["", "\n"] + [self.text(pattern) for _ in range(TEXTS - 2)]
 
 
+def strict_form(pattern):
+    """The pattern with the numbers of the characters that a backslash stands before and mode `u` does not let stand
+    there."""
+    form, in_class, at = [], False, 0
+    while at < len(pattern):
+        sign = pattern[at:at + 2]
+        if sign[0] != "\\" or len(sign) == 1:
+            in_class = sign[0] == "[" or in_class and sign[0] != "]"
+            sign = sign[0]
+        elif sign.isascii() and not sign[1].isalnum() and sign[1] not in SYNTAX and not (in_class and sign[1] == "-"):
+            form.append(f"\\x{ord(sign[1]):02x}")
+            at += 2
+            continue
+        form.append(sign)
+        at += len(sign)
+    return "".join(form)
+
+
+def asked(row):
+    """A row as Node is asked: with the strict form, and whether the pattern is asked for without the flag too."""
+    pattern, texts = row
+    form = strict_form(pattern)
+    return pattern, form, form != pattern and OF_MODE_U.search(pattern) is None, texts
+
+
 def node(rows):
-    """What Node answers: of each pattern the verdict on each text, or `None` where it is not taken; and how many of its
-    matches began within a surrogate pair."""
-    run = subprocess.run(["node", "-e", NODE], input=json.dumps(rows), stdout=subprocess.PIPE, text=True, check=True)
+    """What Node answers: of each pattern the verdict on each text, or `None` where it is not taken; the same without
+    the flag `u`, where that is asked; and how many of its matches began within a surrogate pair."""
+    run = subprocess.run(["node", "-e", NODE], input=json.dumps(list(map(asked, rows))), stdout=subprocess.PIPE,
+                         text=True, check=True)
     return json.loads(run.stdout)
 
 
 def here(row, folder, name):
-    """The same of the program."""
+    """The verdicts of the program."""
     pattern, texts = row
     schema = Path(folder) / f"{name}.json"
     schema.write_text(json.dumps({"pattern": pattern}))
@@ -231,10 +272,10 @@ def by_design(pattern):
     return next((name for name, found in BY_DESIGN if found.search(pattern)), None)
 
 
-def compare(rows, ours, theirs):
+def compare(rows, ours, theirs, unflagged):
     """Counts what both sides say, and lists the differences."""
     counts, wrong = Counter(), []
-    for (pattern, texts), mine, other in zip(rows, ours, theirs):
+    for (pattern, texts), mine, other, plain in zip(rows, ours, theirs, unflagged):
         if mine is None and other is None:
             counts["taken by neither"] += 1
         elif mine is None:
@@ -251,6 +292,10 @@ def compare(rows, ours, theirs):
                 counts["pairs that match" if is_other else "pairs that do not match"] += 1
                 if is_mine != is_other:
                     wrong.append((pattern, text, f"here {is_mine}, Node {is_other}"))
+            for text, is_mine, is_other in zip(texts, mine, plain or []):
+                counts["pairs that were compared without the flag"] += is_other is not None
+                if is_other is not None and is_mine != is_other:
+                    wrong.append((pattern, text, f"here {is_mine}, Node without the flag {is_other}"))
     return counts, wrong
 
 
@@ -262,8 +307,9 @@ def main():
     rows = [maker.row() for _ in range(patterns)]
     with tempfile.TemporaryDirectory() as folder, ThreadPoolExecutor() as pool:
         ours = list(pool.map(lambda numbered: here(numbered[1], folder, numbered[0]), enumerate(rows)))
-    theirs, within = node(rows)
-    counts, wrong = compare(rows, ours, theirs)
+    theirs, unflagged, within = node(rows)
+    counts, wrong = compare(rows, ours, theirs, unflagged)
+    counts["patterns with an escape that mode `u` does not have"] = sum(strict_form(row[0]) != row[0] for row in rows)
     counts["matches of Node within a surrogate pair, searched for again"] = within
     print(f"ecma_compare: {patterns} patterns of the seed {seed}, Node {version}")
     for what, count in sorted(counts.items()):

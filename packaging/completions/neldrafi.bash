@@ -7,9 +7,10 @@ _neldrafi_options() {
     formats) echo --output --help ;;
     check)
         echo --allow-unknown --as --color --delimiter --document --draft --empty --formats --max-errors --name \
-            --no-header --output --quiet --help
+            --no-header --output --quiet --summary --help
         ;;
-    explain) echo --draft --output --help ;;
+    explain) echo --allow-unknown --document --draft --output --help ;;
+    infer) echo --as --delimiter --empty --no-header --help ;;
     *) echo --help --version ;;
     esac
 }
@@ -23,15 +24,17 @@ _neldrafi() {
     local command=${COMP_WORDS[0]} subcommand=${COMP_WORDS[1]} word=${COMP_WORDS[COMP_CWORD]}
     local before=${COMP_WORDS[COMP_CWORD - 1]} words=
     if [ "$COMP_CWORD" = 1 ]; then
-        words="text formats check explain $(_neldrafi_options)"
+        words="text formats check explain infer $(_neldrafi_options)"
     elif [ "$before" = --draft ]; then
         words='4 6 7 2019-09 2020-12'
     elif [ "$before" = --output ]; then
         words='text json'
+        [ "$subcommand" != check ] || words+=' github junit sarif'
     elif [ "$before" = --color ]; then
         words='auto always never'
     elif [ "$before" = --as ]; then
-        words='json jsonl csv tsv text'
+        words='json jsonl csv tsv'
+        [ "$subcommand" = infer ] || words+=' text'
     elif [ "$before" = --empty ]; then
         words='absent text'
     elif [ "$before" = --formats ]; then

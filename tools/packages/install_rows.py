@@ -8,7 +8,7 @@ from packages.rows import TOP, VERSION, files_below, having, run, shell, with_va
 
 INSTALL = TOP / "tools/install"
 PROGRAMS = ["neldrafi", "strkw"]
-SUBCOMMANDS = ["text", "formats", "check", "explain"]
+SUBCOMMANDS = ["text", "formats", "check", "explain", "infer"]
 MAJOR = VERSION.split(".", maxsplit=1)[0]
 INSTALLED = sorted([
     *(f"bin/{program}" for program in PROGRAMS),
@@ -104,6 +104,9 @@ def completions(rows, prefix, options):
         rows.equal("bash completes subcommands", completed(""), {*SUBCOMMANDS, "--help", "--version"})
         rows.equal("bash completes part of a subcommand", completed("ch"), {"check"})
         rows.equal("bash completes a draft", completed("text", "--draft", "20"), {"2019-09", "2020-12"})
+        forms = {subcommand: completed(subcommand, "--output", "") for subcommand in ("check", "formats")}
+        words = {"check": {"text", "json", "github", "junit", "sarif"}, "formats": {"text", "json"}}
+        rows.equal("bash completes a form", forms, words)
         rows.equal("bash completes a format", completed("text", "date"), {"date", "date-time"})
         rows.equal("bash completes a file", completed("check", str(prefix / "inc")), {*str(prefix / "include").split()})
         for subcommand, long in options.items():

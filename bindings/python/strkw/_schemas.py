@@ -135,8 +135,9 @@ def check_texts(draft: int, schema: SchemaObject, texts: Iterable[Text], formats
     Formats are checked in every draft; with formats="as-draft" drafts 2019-09 and 2020-12 do not. A format that the
     draft or the library does not know is refused; with unknown_formats="ignore" it lets every text pass. With
     companion_formats=True `email` and `regex` are known, and from draft 7 on `idn-email` and `idn-hostname`. A pattern
-    is one of ECMA-262 in Unicode mode, with no look-arounds that look far both ways or back reference, and of a bounded
-    size. An answer is True or False, and None for what is not UTF-8, as a lone surrogate.
+    is one of ECMA-262 in Unicode mode, with no back reference and of a bounded size; a backslash may also stand before
+    any other character of ASCII that is no letter and no digit, as in `\\_` and `\\@`. An answer is True or False, and
+    None for what is not UTF-8, as a lone surrogate.
 
     ValueError where the draft is none of DRAFTS, an option is another word, or the schema is no object or refused; it
     says why. TypeError where an argument is of another type.

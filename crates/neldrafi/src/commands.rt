@@ -3,11 +3,12 @@
 mod check;
 mod explain;
 mod formats;
+mod infer;
 mod text;
 
 use crate::building::{Row, make_all};
 use crate::faults::Fault;
-use crate::options::OutputForm;
+use crate::message_form::MessageForm;
 use crate::outcome::Outcome;
 use clap::{ArgMatches, Command};
 use std::alloc::{AllocError, Global};
@@ -15,8 +16,8 @@ use std::alloc::{AllocError, Global};
 // The name of the command.
 const NAME: &str = "neldrafi";
 
-// The number in the file `VERSION`.
-const VERSION: &str = "0.1.0";
+/// The number in the file `VERSION`.
+pub(crate) const VERSION: &str = "0.1.0";
 
 // What it does.
 const ABOUT: &str = "Checks files by a JSON Schema, and texts by a format";
@@ -28,6 +29,7 @@ Examples:
   neldrafi formats
   neldrafi check schema.json server.json events.jsonl
   neldrafi explain schema.json
+  neldrafi infer people.csv
 
 Status: 0 all valid, 1 errors, 2 faults";
 
@@ -38,6 +40,7 @@ enum Subcommand {
     Formats,
     Check,
     Explain,
+    Infer,
 }
 
 // All of them, as help lists them.
@@ -46,6 +49,7 @@ const SUBCOMMANDS: &[Subcommand] = &[
     Subcommand::Formats,
     Subcommand::Check,
     Subcommand::Explain,
+    Subcommand::Infer,
 ];
 
 impl<'a> Row<Command<'a>> for Subcommand {
@@ -55,6 +59,7 @@ impl<'a> Row<Command<'a>> for Subcommand {
             Subcommand::Formats => formats::command(alloc),
             Subcommand::Check => check::command(alloc),
             Subcommand::Explain => explain::command(alloc),
+            Subcommand::Infer => infer::command(alloc),
         }
     }
 }
@@ -71,11 +76,11 @@ pub(crate) fn command<'a>(alloc: Global) -> Result<Command<'a>, AllocError> {
         .bin_name(NAME)
 }
 
-/// The form of output that the words ask for.
-pub(crate) fn form_of(matches: &ArgMatches<'_>) -> OutputForm {
+/// The form of messages that the words ask for.
+pub(crate) fn form_of(matches: &ArgMatches<'_>) -> MessageForm {
     match matches.subcommand() {
-        Some((_, matches)) => OutputForm::of(matches),
-        None => OutputForm::Text,
+        Some((_, matches)) => MessageForm::of(matches),
+        None => MessageForm::Text,
     }
 }
 
@@ -94,6 +99,7 @@ fn run_named(rt: &HostRuntime, name: &str, matches: &ArgMatches<'_>) -> Result<O
         formats::NAME => formats::run(rt, matches),
         check::NAME => check::run(rt, matches),
         explain::NAME => explain::run(rt, matches),
+        infer::NAME => infer::run(rt, matches),
         // The parser lets no other words pass.
         _ => Err(Fault::NoSubcommand),
     }

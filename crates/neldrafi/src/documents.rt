@@ -4,7 +4,7 @@ use crate::faults::{Fault, Reach};
 use crate::schemas::{read_schema, why_of};
 use neldrafi_check::Shown;
 use neldrafi_schema::{Document, SchemaError, SchemaErrorKind, UnknownKeyword, unknown_keywords};
-use serde_json::Value;
+use serde_json::{Map, Value};
 use std::alloc::{AllocError, Global};
 use std::fmt::Write;
 use strkw_report::Draft;
@@ -72,6 +72,75 @@ pub(crate) fn require_known(alloc: Global, draft: Draft, schema: &Value) -> Resu
         return Ok(());
     }
     Err(Fault::with_words(Reach::Run, Ok(words)))
+}
+
+// The keywords by which values are checked, of all drafts.
+const CHECKS: &[&str] = &[
+    "$dynamicRef",
+    "$recursiveRef",
+    "$ref",
+    "additionalItems",
+    "additionalProperties",
+    "allOf",
+    "anyOf",
+    "const",
+    "contains",
+    "contentEncoding",
+    "contentMediaType",
+    "dependencies",
+    "dependentRequired",
+    "dependentSchemas",
+    "enum",
+    "exclusiveMaximum",
+    "exclusiveMinimum",
+    "format",
+    "if",
+    "items",
+    "maxItems",
+    "maxLength",
+    "maxProperties",
+    "maximum",
+    "minItems",
+    "minLength",
+    "minProperties",
+    "minimum",
+    "multipleOf",
+    "not",
+    "oneOf",
+    "pattern",
+    "patternProperties",
+    "prefixItems",
+    "properties",
+    "propertyNames",
+    "required",
+    "type",
+    "unevaluatedItems",
+    "unevaluatedProperties",
+    "uniqueItems",
+];
+
+/// Refuses a schema that checks nothing: `true`, or an object in which no keyword is about values. Any value is valid by
+/// such a schema, so it is not the one that was meant.
+pub(crate) fn require_checks(alloc: Global, schema: &Value) -> Result<(), Fault> {
+    let checks = match schema {
+        Value::Bool(true) => false,
+        Value::Object(members) => has_checks(members),
+        _ => true,
+    };
+    if checks {
+        return Ok(());
+    }
+    let words = "the schema checks nothing: none of its keywords is about values";
+    Err(Fault::with_words(Reach::Run, String::from_str(alloc, words)))
+}
+
+fn has_checks(members: &Map<String, Value>) -> bool {
+    for keyword in CHECKS {
+        if members.contains_key(*keyword) {
+            return true;
+        }
+    }
+    false
 }
 
 // Appends that a keyword is unknown, after a semicolon unless it is the first.

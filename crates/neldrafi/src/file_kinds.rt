@@ -1,6 +1,6 @@
 //! What files are.
 
-use strkw_records::Delimiter;
+use neldrafi_csv::Delimiter;
 
 /// What a file is.
 #[derive(Clone, Copy, Debug, PartialEq, Eq)]

@@ -8,21 +8,26 @@ mod distinct;
 mod documents;
 mod drafts;
 mod encodings;
+mod explanations;
 mod faults;
 mod file_kinds;
 mod files;
 mod inputs;
 mod known_formats;
+mod message_form;
 mod options;
 mod outcome;
 mod output;
+mod report;
+mod samples;
 mod schemas;
+mod summary;
 mod tables;
 mod telling;
 mod usage;
 
 use crate::faults::Fault;
-use crate::options::OutputForm;
+use crate::message_form::MessageForm;
 use crate::outcome::Outcome;
 use crate::telling::{Notice, Subject, tell};
 use clap::{ArgMatches, Error};
@@ -40,7 +45,7 @@ fn words_of(rt: &HostRuntime) -> Result<Vec<String>, Fault> {
 }
 
 // What running came to. A fault is told in this form.
-fn tell_outcome(rt: &HostRuntime, form: OutputForm, ran: &Result<Outcome, Fault>) -> Outcome {
+fn tell_outcome(rt: &HostRuntime, form: MessageForm, ran: &Result<Outcome, Fault>) -> Outcome {
     match ran {
         Ok(outcome) => *outcome,
         Err(fault) => {
@@ -78,5 +83,5 @@ fn answer_parsed(
 // Answers the command line, and ends with the status that says what came of it.
 fn main(rt: HostRuntime) -> ExitCode {
     let answered = answer(&rt);
-    tell_outcome(&rt, OutputForm::Text, &answered).status()
+    tell_outcome(&rt, MessageForm::Text, &answered).status()
 }

@@ -2,16 +2,21 @@
 
 use crate::building::{Argument, Takes};
 use crate::drafts::{DEFAULT_DRAFT_NAME, DRAFT_NAMES, draft_named};
+use crate::message_form::MessageForm;
 use clap::ArgMatches;
 use std::env;
 use std::env::VarError;
 use std::io::IsTerminal;
 use strkw_report::Draft;
 
-// The name of the form of text, and that of lines of JSON.
-const TEXT: &str = "text";
+/// The name of the option `--output`.
+pub(crate) const OUTPUT_NAME: &str = "output";
 
-const JSON: &str = "json";
+/// The name of the form of text.
+pub(crate) const TEXT: &str = "text";
+
+/// The name of the form of lines of JSON.
+pub(crate) const JSON: &str = "json";
 
 // The names of the forms.
 const FORM_NAMES: &[&str] = &[TEXT, JSON];
@@ -41,7 +46,7 @@ pub(crate) enum OutputForm {
 impl OutputForm {
     /// What the option `--output` says.
     pub(crate) fn of(matches: &ArgMatches<'_>) -> OutputForm {
-        if matches.get_str(OUTPUT.name) == Some(JSON) {
+        if matches.get_str(OUTPUT_NAME) == Some(JSON) {
             OutputForm::Json
         } else {
             OutputForm::Text
@@ -51,7 +56,7 @@ impl OutputForm {
 
 /// The option `--output`.
 pub(crate) const OUTPUT: Argument = Argument {
-    name: "output",
+    name: OUTPUT_NAME,
     takes: Takes::OneOf {
         value: "FORM",
         words: FORM_NAMES,
@@ -78,7 +83,7 @@ fn is_coloured(rt: &HostRuntime, matches: &ArgMatches<'_>) -> bool {
         Some(AUTO) => rt.stdout().is_terminal(),
         _ => false,
     };
-    is_asked && OutputForm::of(matches) == OutputForm::Text && !has_no_color(rt)
+    is_asked && MessageForm::of(matches) == MessageForm::Text && !has_no_color(rt)
 }
 
 /// The option `--color`.
@@ -103,7 +108,7 @@ pub(crate) struct Wanted {
     /// No more than so many are written about a file.
     pub most_messages: Option<u64>,
     /// In which form.
-    pub form: OutputForm,
+    pub form: MessageForm,
 }
 
 impl Wanted {
@@ -113,7 +118,7 @@ impl Wanted {
             is_quiet: false,
             is_coloured: false,
             most_messages: None,
-            form: OutputForm::Text,
+            form: MessageForm::Text,
         }
     }
 
@@ -123,7 +128,7 @@ impl Wanted {
             is_quiet: matches.get_flag(QUIET.name),
             is_coloured: is_coloured(rt, matches),
             most_messages: matches.get_one::<u64>(MAX_ERRORS.name),
-            form: OutputForm::of(matches),
+            form: MessageForm::of(matches),
         }
     }
 }
@@ -142,6 +147,22 @@ pub(crate) const MAX_ERRORS: Argument = Argument {
     takes: Takes::Number("N"),
     conflicts: &[],
     help: "Stop after N messages about a file",
+};
+
+/// The option `--allow-unknown`.
+pub(crate) const ALLOW_UNKNOWN: Argument = Argument {
+    name: "allow-unknown",
+    takes: Takes::Nothing,
+    conflicts: &[],
+    help: "Ignore keywords and formats in the schema that are not known; `x-..` is always ignored",
+};
+
+/// The option `--document`.
+pub(crate) const DOCUMENT: Argument = Argument {
+    name: "document",
+    takes: Takes::Values("URI=FILE"),
+    conflicts: &[],
+    help: "A further document, to which references lead by its URI",
 };
 
 /// The option `--draft`.

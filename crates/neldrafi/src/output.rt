@@ -2,6 +2,7 @@
 
 use crate::colours::push_line;
 use crate::faults::Fault;
+use crate::message_form::MessageForm;
 use crate::options::Wanted;
 use std::alloc::{AllocError, Global};
 use std::io;
@@ -40,6 +41,8 @@ pub(crate) struct Output<'a> {
     rt: &'a HostRuntime,
     wanted: Wanted,
     lines: u64,
+    // A line came before, about this file or another.
+    has_lines: bool,
     is_in_line: bool,
     failure: Option<Failure>,
 }
@@ -47,13 +50,24 @@ pub(crate) struct Output<'a> {
 impl<'a> Output<'a> {
     /// Of each line, what is wanted of it is written.
     pub(crate) fn new(rt: &'a HostRuntime, wanted: Wanted) -> Output<'a> {
+        Output::after(rt, wanted, false)
+    }
+
+    /// The same, after lines about other files, if there were any.
+    pub(crate) fn after(rt: &'a HostRuntime, wanted: Wanted, has_lines: bool) -> Output<'a> {
         Output {
             rt,
             wanted,
             lines: 0,
+            has_lines,
             is_in_line: false,
             failure: None,
         }
+    }
+
+    /// Whether a line came, about this file or another.
+    pub(crate) fn has_lines(&self) -> bool {
+        self.has_lines
     }
 
     // Whether a line may begin. Counts it.
@@ -73,11 +87,21 @@ impl<'a> Output<'a> {
         }
     }
 
-    // Appends the front of a line, or the whole line, in colours where these are wanted.
-    fn push_front(&self, line: &[u8], out: &mut Vec<u8>) -> Result<(), AllocError> {
+    // Whether lines are the elements of an array.
+    fn is_array(&self) -> bool {
+        self.wanted.form == MessageForm::Sarif
+    }
+
+    // Appends the front of a line, or the whole line, in colours where these are wanted. In an array it is behind a
+    // comma, unless it is the first.
+    fn push_front(&mut self, line: &[u8], out: &mut Vec<u8>) -> Result<(), AllocError> {
         if self.wanted.is_coloured {
             return push_line(line, out);
         }
+        if self.is_array() && self.has_lines {
+            out.extend_from_slice(b",")?;
+        }
+        self.has_lines = true;
         out.extend_from_slice(line)
     }
 
@@ -107,7 +131,7 @@ impl<'a> Output<'a> {
 
     // Whether lines are written as they are, and all of them.
     fn is_plain(&self) -> bool {
-        self.wanted.most_messages.is_none() && !self.wanted.is_coloured
+        self.wanted.most_messages.is_none() && !self.wanted.is_coloured && !self.is_array()
     }
 
     // Writes bytes, up to so many lines, and in colours where these are wanted.

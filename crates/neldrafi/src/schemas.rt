@@ -12,7 +12,7 @@ use neldrafi_check::Shown;
 use serde_json::Value;
 use std::alloc::{AllocError, Global};
 use std::{fs, io};
-use strkw_ecma::why_refused;
+use strkw_ecma::why_refused_leniently;
 use strkw_report::{CompileError, CompileErrorKind};
 
 // A byte order mark.
@@ -62,7 +62,7 @@ pub(crate) fn why_of(alloc: Global, refusal: &CompileError) -> Result<String, Al
         CompileErrorKind::UnknownFormat { name, .. } => {
             format!(in alloc; "unknown format \"{name}\"")
         }
-        CompileErrorKind::Regex { pattern } => match why_refused(alloc, pattern)? {
+        CompileErrorKind::Regex { pattern } => match why_refused_leniently(alloc, pattern)? {
             Some(why) => format!(in alloc; "the pattern \"{pattern}\" is not taken: {why}"),
             None => format!(in alloc; "the pattern \"{pattern}\" is not taken"),
         },

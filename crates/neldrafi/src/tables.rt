@@ -3,11 +3,12 @@
 use crate::building::{Argument, Takes};
 use crate::faults::{Fault, Reach};
 use crate::file_kinds::FileKind;
-use crate::options::OutputForm;
+use crate::message_form::MessageForm;
 use crate::telling::{Notice, Subject, tell};
 use clap::ArgMatches;
 use csv::StringRecord;
 use neldrafi_check::Shown;
+use neldrafi_csv::Delimiter;
 use neldrafi_table::{
     Column, EmptyField, Header, TableFault, TableForm, columns_of, missing_column,
     unexpected_column,
@@ -15,7 +16,6 @@ use neldrafi_table::{
 use serde_json::Value;
 use std::alloc::{AllocError, Global};
 use std::fmt;
-use strkw_records::Delimiter;
 
 // What an empty field may be, as the option has it.
 const ABSENT: &str = "absent";
@@ -168,7 +168,7 @@ impl fmt::Display for Warning<'_> {
 /// Warns of properties of a schema that no column has, and of another delimiter in the only name.
 pub(crate) fn warn(
     rt: &HostRuntime,
-    form: OutputForm,
+    form: MessageForm,
     subject: Subject<'_>,
     schema: &Value,
     columns: &[Column],

@@ -1,7 +1,7 @@
 //! What is told on standard error: faults, and where messages stop; each on one line.
 
-use crate::options::OutputForm;
-use neldrafi_check::{Datum, object};
+use crate::message_form::MessageForm;
+use neldrafi_check::{AnnotationLevel, Datum, object, push_annotation};
 use serde_json::Value;
 use std::alloc::{AllocError, Global};
 use std::fmt::Display;
@@ -45,6 +45,15 @@ impl Notice {
             Notice::Warning => "warning",
         }
     }
+
+    // How severe an annotation of it is.
+    fn level(self) -> AnnotationLevel {
+        match self {
+            Notice::Fault => AnnotationLevel::Error,
+            Notice::Stopped => AnnotationLevel::Notice,
+            Notice::Warning => AnnotationLevel::Warning,
+        }
+    }
 }
 
 // The object that tells of it.
@@ -73,22 +82,40 @@ fn json_line<D: Display>(
     object_of(alloc, subject, notice, &message)?.to_string(alloc)
 }
 
+// The annotation that tells of it, with the end of its line.
+fn annotation<D: Display>(
+    alloc: Global,
+    subject: Subject<'_>,
+    notice: Notice,
+    what: &D,
+) -> Result<String, AllocError> {
+    let message = format!(in alloc; "{what}")?;
+    let mut line = String::new(alloc);
+    push_annotation(notice.level(), subject.file, &message, &mut line)?;
+    Ok(line)
+}
+
 /// Tells of something about a file, on a line of the standard error. Where it is out of memory, nothing is told.
 pub(crate) fn tell<D: Display>(
     rt: &HostRuntime,
-    form: OutputForm,
+    form: MessageForm,
     subject: Subject<'_>,
     notice: Notice,
     what: &D,
 ) {
     match form {
-        OutputForm::Text => {
+        MessageForm::Text | MessageForm::Junit | MessageForm::Sarif => {
             let label = subject.label;
             let _ = eprintln!(rt; "neldrafi: {label}{what}");
         }
-        OutputForm::Json => {
+        MessageForm::Json => {
             if let Ok(line) = json_line(rt.alloc(), subject, notice, what) {
                 let _ = eprintln!(rt; "{line}");
+            }
+        }
+        MessageForm::Github => {
+            if let Ok(line) = annotation(rt.alloc(), subject, notice, what) {
+                let _ = eprint!(rt; "{line}");
             }
         }
     }

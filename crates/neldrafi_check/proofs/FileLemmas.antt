@@ -8,16 +8,17 @@ use Rattle.std.specs.declared.alloc.AllocError.{AllocError}
 use Rattle.neldrafi_check.specs.Files.{Errors, LineTold, UnreadTold}
 use Rattle.neldrafi_check.specs.Forms.{Form}
 use Rattle.neldrafi_check.specs.Messages.{Adds}
+use Rattle.neldrafi_check.specs.declared.counts.Counts.{Counts}
 use Rattle.neldrafi_check.specs.declared.lines.LineKind.{LineKind}
 use Rattle.neldrafi_check.specs.declared.lines.LineKind.TheVariants.{Json, Text}
 
 module _ (errors : Errors) (form : Form) where
-  not_utf8 : (kind : LineKind) (number : ℕ) (line : List ℕ) (count : ℕ) (made : List ℕ)
+  not_utf8 : (kind : LineKind) (number : ℕ) (line : List ℕ) (count : Counts) (made : List ℕ)
       → (IsUtf8 line → ⊥) → UnreadTold form number count made → LineTold errors form kind number line count made
   not_utf8 Json number line count made bad told = inr (inr (λ yes. absurd (bad yes), told))
   not_utf8 Text number line count made bad told = inr (bad, told)
 
-  pub adds_not_utf8 : (kind : LineKind) (number : ℕ) (line old new : List ℕ) (result : Result ℕ AllocError) → (IsUtf8 line → ⊥)
+  pub adds_not_utf8 : (kind : LineKind) (number : ℕ) (line old new : List ℕ) (result : Result Counts AllocError) → (IsUtf8 line → ⊥)
       → IfOk result (λ count. Adds (UnreadTold form number count) old new)
       → IfOk result (λ count. Adds (LineTold errors form kind number line count) old new)
   adds_not_utf8 kind number line old new (Ok count) bad put = (put.0, put.1, not_utf8 kind number line count put.0 bad put.2)

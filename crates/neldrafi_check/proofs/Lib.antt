@@ -1,3 +1,4 @@
+mod CountLemmas
 mod ObjectLemmas
 mod CutLemmas
 mod FileLemmas

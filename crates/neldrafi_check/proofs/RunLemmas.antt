@@ -1,30 +1,33 @@
 -- The check of lines, line by line.
-use Rattle.std.proofs.Common.{◌≡◌, ◌∙◌, ◌++◌, ◌+◌, ◌<◌, ℕ, List, [], length, sym, ap, subst, arith, append_assoc, append-nil}
+use Rattle.std.proofs.Common.{◌≡◌, ◌∙◌, ◌++◌, ◌+◌, ◌<◌, ℕ, List, [], length, sym, ap, subst, append_assoc, append-nil}
 use Rattle.std.specs.Io.BufRead.{drop_through, first_line}
+use Rattle.neldrafi_check.proofs.CountLemmas.{both_assoc, nothing_before, nothing_behind}
+use Rattle.neldrafi_check.specs.Counting.{both, of_nothing}
 use Rattle.neldrafi_check.specs.Files.{LinesTold}
+use Rattle.neldrafi_check.specs.declared.counts.Counts.{Counts}
 use Rattle.neldrafi_check.specs.machine.Runs.{Going}
 
-module _ (told : ℕ → List ℕ → ℕ → List ℕ → Type 0) (text : List ℕ) where
+module _ (told : ℕ → List ℕ → Counts → List ℕ → Type 0) (text : List ℕ) where
   -- before the first line
-  going_start : Going told text 1 0 text []
-  going_start others later rest = subst (λ n. LinesTold told 1 text n later) (omega arith) rest
+  going_start : Going told text 1 of_nothing text []
+  going_start others later rest = subst (λ n. LinesTold told 1 text n later) (sym (nothing_before others)) rest
 
-  pub start : (out : List ℕ) → out ≡ [] → Going told text 1 0 text ([] ++ out)
-  start out is = subst (λ l. Going told text 1 0 text l) (sym is) going_start
+  pub start : (out : List ℕ) → out ≡ [] → Going told text 1 of_nothing text ([] ++ out)
+  start out is = subst (λ l. Going told text 1 of_nothing text l) (sym is) going_start
 
   -- one line more
-  going_more : (number count more : ℕ) (rest made added : List ℕ) → Going told text number count rest made
+  going_more : (number : ℕ) (count more : Counts) (rest made added : List ℕ) → Going told text number count rest made
       → 0 < length rest → told number (first_line rest) more added
-      → Going told text (number + 1) (count + more) (drop_through 10 rest) (made ++ added)
+      → Going told text (number + 1) (both count more) (drop_through 10 rest) (made ++ added)
   going_more number count more rest made added going some line others later lines =
-      let all = going (more + others) (added ++ later) (LinesTold.more number rest more others added later some line lines) in
-      subst (λ n. LinesTold told 1 text n ((made ++ added) ++ later)) (omega arith)
-      (subst (λ l. LinesTold told 1 text (count + (more + others)) l) (sym (append_assoc made added later)) all)
+      let all = going (both more others) (added ++ later) (LinesTold.more number rest more others added later some line lines) in
+      subst (λ n. LinesTold told 1 text n ((made ++ added) ++ later)) (both_assoc count more others)
+      (subst (λ l. LinesTold told 1 text (both count (both more others)) l) (sym (append_assoc made added later)) all)
 
   -- .. of which some was written, with what was gathered before, and the rest is kept
-  pub step : (number count more total : ℕ) (rest line written old mid new put pushed : List ℕ)
+  pub step : (number : ℕ) (count more total : Counts) (rest line written old mid new put pushed : List ℕ)
       → Going told text number count rest (written ++ old) → 0 < length rest → line ≡ first_line rest
-      → told number line more pushed → total ≡ count + more → mid ≡ old ++ pushed → mid ≡ put ++ new
+      → told number line more pushed → total ≡ both count more → mid ≡ old ++ pushed → mid ≡ put ++ new
       → Going told text (number + 1) total (drop_through 10 rest) ((written ++ put) ++ new)
   step number count more total rest line written old mid new put pushed going some is_line added sum grown kept =
       let next = going_more number count more rest (written ++ old) pushed going some (subst (λ l. told number l more pushed) is_line added) in
@@ -33,8 +36,8 @@ module _ (told : ℕ → List ℕ → ℕ → List ℕ → Type 0) (text : List 
       (subst (λ n. Going told text (number + 1) n (drop_through 10 rest) ((written ++ old) ++ pushed)) (sym sum) next)
 
   -- behind the last
-  pub finish : (number count : ℕ) (rest made : List ℕ) → rest ≡ [] → Going told text number count rest made → LinesTold told 1 text count made
+  pub finish : (number : ℕ) (count : Counts) (rest made : List ℕ) → rest ≡ [] → Going told text number count rest made → LinesTold told 1 text count made
   finish number count rest made is going =
-      let all = subst (λ r. Going told text number count r made) is going 0 [] (LinesTold.none number) in
-      subst (λ n. LinesTold told 1 text n made) (omega arith)
-      (subst (λ l. LinesTold told 1 text (count + 0) l) (append-nil made) all)
+      let all = subst (λ r. Going told text number count r made) is going of_nothing [] (LinesTold.none number) in
+      subst (λ n. LinesTold told 1 text n made) (nothing_behind count)
+      (subst (λ l. LinesTold told 1 text (both count of_nothing) l) (append-nil made) all)

@@ -4,7 +4,7 @@ use Rattle.std.specs.declared.io.Error.{Error}
 use Rattle.serde_json.specs.Read.{read as read_text}
 use Rattle.neldrafi_table.specs.declared.faults.TableFault.{TableFault}
 use Rattle.neldrafi_table.specs.declared.faults.TableFault.TheVariants as table
-use Rattle.strkw_records.specs.declared.faults.ReadFault.TheVariants as read
+use Rattle.neldrafi_csv.specs.declared.faults.ReadFault.TheVariants as read
 use Rattle.neldrafi_check.specs.declared.faults.CheckFault.{CheckFault}
 use Rattle.neldrafi_check.specs.declared.faults.CheckFault.TheVariants as fault
 

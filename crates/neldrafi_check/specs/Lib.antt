@@ -1,8 +1,14 @@
 pub mod Shown
 pub mod Cutting
 pub mod Kinds
+pub mod Escapes
 pub mod Objects
 pub mod Forms
+pub mod Github
+pub mod Junit
+pub mod Uris
+pub mod Sarif
+pub mod Counting
 pub mod Messages
 pub mod Files
 pub mod Tables

@@ -1,9 +1,9 @@
 //! Why the check of a file ends early.
 
+use neldrafi_csv::ReadFault;
 use neldrafi_table::TableFault;
 use std::alloc::AllocError;
 use std::{fmt, io};
-use strkw_records::ReadFault;
 
 /// Why the check of a file ends early.
 #[derive(Debug, Drop)]

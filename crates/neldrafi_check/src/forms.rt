@@ -7,7 +7,7 @@ ghost use Rattle.neldrafi_check.specs.Forms.{Form, error_object, json_form, line
 
 use crate::cutting::push_cut;
 use crate::kinds::error_kind_name;
-use crate::objects::{Datum, object_with, push_line, push_object};
+use crate::objects::{Datum, object, push_line, push_object};
 use crate::shown::push_shown;
 use neldrafi_position::Position;
 use neldrafi_schema::ValidationError;
@@ -66,8 +66,9 @@ impl TextLines<'_> {
     }
 }
 
-// Appends the location of a value, unless it is the root.
-fn push_location(location: &str, out: &mut String) -> Result<(), AllocError>
+/// Appends the location of a value, unless it is the root. The only error is out of memory; a beginning of it may then
+/// have been appended.
+pub(crate) fn push_location(location: &str, out: &mut String) -> Result<(), AllocError>
     ensures { OnOk result (string_bytes out.new
         ≡ string_bytes out.old ++ location_text location.now) }
 {
@@ -133,6 +134,7 @@ fn push_error<'x>(
 {
     let members = [
         ("file", Datum::Text(file)),
+        ("instance", Datum::Value(error.instance())),
         ("keyword", Datum::Text(error.schema_path().as_str())),
         ("kind", Datum::Text(error_kind_name(error))),
         ("line", Datum::Number(at.line)),
@@ -140,8 +142,7 @@ fn push_error<'x>(
         ("message", Datum::Text(text)),
         ("position", Datum::Number(at.column)),
     ];
-    let object = object_with(alloc, &members, "instance", error.instance())?;
-    push_line(alloc, &object, out)
+    push_line(alloc, &object(alloc, &members)?, out)
 }
 
 // Appends the object about a line that has no value.

@@ -1,10 +1,11 @@
 //! Messages, gathered before they are written.
 
-ghost use Rattle.std.specs.Prelude.{◌≡◌, ◌+◌, IfOk, OnOk, [], string_bytes};
+ghost use Rattle.std.specs.Prelude.{◌≡◌, IfOk, OnOk, [], string_bytes};
 ghost use Rattle.std.specs.Io.KnownBytes.{Appends};
 ghost use Rattle.neldrafi_check.specs.Files.{UnreadTold};
 ghost use Rattle.neldrafi_check.specs.Messages.{Adds};
 
+use crate::counts::Counts;
 use crate::faults::CheckFault;
 use crate::forms::ErrorForm;
 use neldrafi_position::Position;
@@ -21,12 +22,12 @@ pub(crate) fn push_unread<F: ErrorForm>(
     at: Position,
     why: &str,
     out: &mut String,
-) -> Result<u64, AllocError>
-    ensures { IfOk result (λ count. Adds (UnreadTold (F.writes form.now) at.line count)
+) -> Result<Counts, AllocError>
+    ensures { IfOk result (λ counts. Adds (UnreadTold (F.writes form.now) at.line counts)
         (string_bytes out.old) (string_bytes out.new)) }
 {
     form.push_unread(alloc, at, why, out)?;
-    Ok(1)
+    Ok(Counts::of_no_value())
 }
 
 /// Writes and clears what was gathered.
@@ -40,14 +41,4 @@ pub(crate) fn write_out<W: Write>(out: &mut String, writer: &mut W) -> Result<()
     }
     out.clear();
     Ok(())
-}
-
-/// The sum of two counts of errors.
-pub(crate) fn sum(count: u64, more: u64) -> Result<u64, CheckFault>
-    ensures { IfOk result (λ all. all ≡ count + more) }
-{
-    match count.checked_add(more) {
-        Some(all) => Ok(all),
-        None => Err(CheckFault::TooLong),
-    }
 }

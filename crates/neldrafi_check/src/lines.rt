@@ -1,6 +1,6 @@
 //! Lines, checked one by one: each is a JSON text, or a string itself.
 
-ghost use Rattle.std.specs.Prelude.{◌≡◌, ◌<◌, ◌+◌, ◌++◌, ℕ, List, IfOk, None, OnOk, Some, [], length, string_bytes};
+ghost use Rattle.std.specs.Prelude.{◌≡◌, ◌<◌, ◌++◌, ℕ, List, IfOk, None, OnOk, Some, [], length, string_bytes};
 ghost use Rattle.std.specs.Bool.{MatchBool};
 ghost use Rattle.std.specs.Io.BufRead.{drop_through, take_through};
 ghost use Rattle.std.specs.Io.Buffered.{reader_remaining};
@@ -11,12 +11,13 @@ ghost use Rattle.neldrafi_schema.specs.machine.Words.{IsCompiled, lists_in, sche
 ghost use Rattle.neldrafi_check.specs.Files.{JsonTold, LineTold, LinesTold, TextTold, UnreadTold};
 ghost use Rattle.neldrafi_check.specs.Messages.{Adds};
 
+use crate::counts::Counts;
 use crate::faults::CheckFault;
 use crate::forms::ErrorForm;
-use crate::gathering::{PIECE, push_unread, sum, write_out};
+use crate::gathering::{PIECE, push_unread, write_out};
 use crate::origin::{JsonLine, Origin};
 use crate::texts::{is_blank, read_value, without_end, without_place};
-use crate::values::push_errors;
+use crate::values::push_value;
 use json::Scratch;
 use neldrafi_position::{Position, Positions};
 use neldrafi_schema::Schema;
@@ -43,7 +44,7 @@ struct LineCheck<'a, E: RegexEngine, F> {
 }
 
 impl<E: RegexEngine, F: ErrorForm> LineCheck<'_, E, F> {
-    // Appends what is written of the line of this number, and answers how many errors it has.
+    // Appends what is written of the line of this number, and counts its value and its errors.
     fn push_line(
         &self,
         alloc: Global,
@@ -51,13 +52,13 @@ impl<E: RegexEngine, F: ErrorForm> LineCheck<'_, E, F> {
         number: u64,
         line: &[u8],
         out: &mut String,
-    ) -> Result<u64, AllocError>
+    ) -> Result<Counts, AllocError>
         requires { IsCompiled E.outcome (lists_in admits accepts is_encoding decoding
             self.now.schema.now) self.now.schema.now }
         ensures { let lists = lists_in admits accepts is_encoding decoding self.now.schema.now in
-            IfOk result (λ count. Adds (LineTold
+            IfOk result (λ counts. Adds (LineTold
             (HasErrors (schemas_in E.outcome self.now.schema.now) lists)
-            (F.writes self.now.form.now) self.now.kind number line.now count)
+            (F.writes self.now.form.now) self.now.kind number line.now counts)
             (string_bytes out.old) (string_bytes out.new)) }
     {
         let Ok(text) = simdutf8::basic::from_utf8(line) else {
@@ -86,23 +87,23 @@ impl<E: RegexEngine, F: ErrorForm> LineCheck<'_, E, F> {
         number: u64,
         text: &str,
         out: &mut String,
-    ) -> Result<u64, AllocError>
+    ) -> Result<Counts, AllocError>
         requires { IsCompiled E.outcome (lists_in admits accepts is_encoding decoding
             self.now.schema.now) self.now.schema.now }
         ensures { let lists = lists_in admits accepts is_encoding decoding self.now.schema.now in
-            IfOk result (λ count. Adds (JsonTold
+            IfOk result (λ counts. Adds (JsonTold
             (HasErrors (schemas_in E.outcome self.now.schema.now) lists)
-            (F.writes self.now.form.now) number text.now count)
+            (F.writes self.now.form.now) number text.now counts)
             (string_bytes out.old) (string_bytes out.new)) }
     {
         if is_blank(text) {
-            return Ok(0);
+            return Ok(Counts::NONE);
         }
         match read_value(alloc, text, scratch)? {
             Some(value) => {
                 let positions = Positions::new(alloc, text);
                 let mut origin = Origin::Line(JsonLine { number, positions });
-                push_errors(alloc, self.schema, &mut origin, &value, self.form, out)
+                push_value(alloc, self.schema, &mut origin, &value, self.form, out)
             }
             None => push_not_json(alloc, self.form, number, text, out),
         }
@@ -115,18 +116,18 @@ impl<E: RegexEngine, F: ErrorForm> LineCheck<'_, E, F> {
         number: u64,
         text: &str,
         out: &mut String,
-    ) -> Result<u64, AllocError>
+    ) -> Result<Counts, AllocError>
         requires { IsCompiled E.outcome (lists_in admits accepts is_encoding decoding
             self.now.schema.now) self.now.schema.now }
         ensures { let lists = lists_in admits accepts is_encoding decoding self.now.schema.now in
-            IfOk result (λ count. Adds (TextTold
+            IfOk result (λ counts. Adds (TextTold
             (HasErrors (schemas_in E.outcome self.now.schema.now) lists)
-            (F.writes self.now.form.now) number text.now count)
+            (F.writes self.now.form.now) number text.now counts)
             (string_bytes out.old) (string_bytes out.new)) }
     {
         let value = Value::try_from_str(alloc, text)?;
         let mut origin = Origin::Front(number);
-        push_errors(alloc, self.schema, &mut origin, &value, self.form, out)
+        push_value(alloc, self.schema, &mut origin, &value, self.form, out)
     }
 }
 
@@ -137,9 +138,9 @@ fn push_not_json<F: ErrorForm>(
     line: u64,
     text: &str,
     out: &mut String,
-) -> Result<u64, AllocError>
+) -> Result<Counts, AllocError>
     requires { read text.now ≡ None }
-    ensures { IfOk result (λ count. Adds (UnreadTold (F.writes form.now) line count)
+    ensures { IfOk result (λ counts. Adds (UnreadTold (F.writes form.now) line counts)
         (string_bytes out.old) (string_bytes out.new)) }
 {
     match Value::from_str(alloc, text) {
@@ -159,7 +160,7 @@ fn push_not_json<F: ErrorForm>(
     }
 }
 
-/// Writes the errors of each line of a file, and answers how many there are. A line that is not UTF-8, or not JSON, is
+/// Writes the errors of each line of a file, and counts them and the values. A line that is not UTF-8, or not JSON, is
 /// an error, and the next line is checked. LF or CR LF ends a line; the last one needs no end. Messages are written as
 /// soon as the next line has to be waited for.
 ///
@@ -171,13 +172,13 @@ pub fn check_lines<E: RegexEngine, R: Read + Drop, W: Write, F: ErrorForm>(
     file: R,
     form: &F,
     writer: &mut W,
-) -> Result<u64, CheckFault>
+) -> Result<Counts, CheckFault>
     requires { IsCompiled E.outcome
         (lists_in admits accepts is_encoding decoding schema.now) schema.now }
     ensures messages { let lists = lists_in admits accepts is_encoding decoding schema.now in
-        (text : List ℕ) → R.remaining file ≡ Some text → IfOk result (λ count. (made : List ℕ)
+        (text : List ℕ) → R.remaining file ≡ Some text → IfOk result (λ counts. (made : List ℕ)
         × LinesTold (LineTold (HasErrors (schemas_in E.outcome schema.now) lists)
-        (F.writes form.now) kind) 1 text count made
+        (F.writes form.now) kind) 1 text counts made
         × Appends (W.contents writer.old) (W.contents writer.new) made) }
 {
     let Ok(mut reader) = BufReader::with_capacity(alloc, PIECE, file) else {
@@ -186,9 +187,9 @@ pub fn check_lines<E: RegexEngine, R: Read + Drop, W: Write, F: ErrorForm>(
     let check = LineCheck { schema, form, kind };
     let mut out = String::new(alloc);
     match check_each(alloc, &check, &mut reader, &mut out, writer) {
-        Ok(count) => {
+        Ok(counts) => {
             write_out(&mut out, writer)?;
-            Ok(count)
+            Ok(counts)
         }
         Err(CheckFault::Write) => Err(CheckFault::Write),
         Err(fault) => {
@@ -199,34 +200,34 @@ pub fn check_lines<E: RegexEngine, R: Read + Drop, W: Write, F: ErrorForm>(
 }
 
 // Gathers the messages about each line, writes them if they are many or the next line has to be waited for, and
-// answers how many errors there are.
+// counts values and errors.
 fn check_each<E: RegexEngine, R: Read + Drop, W: Write, F: ErrorForm>(
     alloc: Global,
     check: &LineCheck<'_, E, F>,
     reader: &mut BufReader<R>,
     out: &mut String,
     writer: &mut W,
-) -> Result<u64, CheckFault>
+) -> Result<Counts, CheckFault>
     requires { IsCompiled E.outcome (lists_in admits accepts is_encoding decoding
         check.now.schema.now) check.now.schema.now }
     ensures { let schema = check.now.schema.now in
         let lists = lists_in admits accepts is_encoding decoding schema in
         (text : List ℕ) → reader_remaining R.remaining reader.old ≡ Some text
-        → IfOk result (λ count. (written : List ℕ)
+        → IfOk result (λ counts. (written : List ℕ)
         × LinesTold (LineTold (HasErrors (schemas_in E.outcome schema) lists)
-        (F.writes check.now.form.now) check.now.kind) 1 text count (written ++ string_bytes out.new)
+        (F.writes check.now.form.now) check.now.kind) 1 text counts (written ++ string_bytes out.new)
         × Appends (W.contents writer.old) (W.contents writer.new) written) }
 {
     out.clear();
-    let mut count = 0u64;
+    let mut counts = Counts::NONE;
     let mut line = Vec::new(alloc);
     let mut scratch = Scratch::new(alloc);
     for turn in 0..u64::MAX {
         if !read_line(reader, &mut line)? {
-            return Ok(count);
+            return Ok(counts);
         }
         let more = check.push_line(alloc, &mut scratch, turn + 1, without_end(&line), out)?;
-        count = sum(count, more)?;
+        counts = counts.plus(more)?;
         write_due(reader, out, writer)?;
     }
     Err(CheckFault::TooLong)

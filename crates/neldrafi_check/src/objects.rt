@@ -5,7 +5,7 @@ ghost use Rattle.serde_json.specs.Data.{no_members};
 ghost use Rattle.serde_json.specs.View.{view, members_view};
 ghost use Rattle.serde_json.specs.Written.{has_float};
 ghost use Rattle.neldrafi_check.specs.Forms.{line_of};
-ghost use Rattle.neldrafi_check.specs.Objects.{data_of, object_and, object_of, with_members};
+ghost use Rattle.neldrafi_check.specs.Objects.{array_of_one, data_of, object_of, with_members};
 
 use serde_json::{Map, Value, put};
 use std::alloc::{AllocError, Global};
@@ -19,6 +19,19 @@ pub enum Datum<'a> {
     Number(u64),
     /// True or false.
     Flag(bool),
+    /// A copy of a value.
+    Value(&'a Value),
+    /// An array of a copy of a value alone.
+    Single(&'a Value),
+}
+
+// An array of a copy of a value alone.
+fn single(alloc: Global, value: &Value) -> Result<Value, AllocError>
+    ensures { IfOk result (λ array. view array ≡ array_of_one (view value.now)) }
+{
+    let mut items = Vec::new(alloc);
+    items.push(value.clone()?)?;
+    Ok(Value::Array(items))
 }
 
 impl Datum<'_> {
@@ -30,6 +43,8 @@ impl Datum<'_> {
             Datum::Text(text) => Value::try_from_str(alloc, text),
             Datum::Number(number) => Ok(Value::from(*number)),
             Datum::Flag(flag) => Ok(Value::from(*flag)),
+            Datum::Value(value) => (*value).clone(),
+            Datum::Single(value) => single(alloc, value),
         }
     }
 }
@@ -69,21 +84,6 @@ pub fn object(alloc: Global, members: &[(&str, Datum<'_>)]) -> Result<Value, All
     ensures { IfOk result (λ value. view value ≡ object_of members.now) }
 {
     Ok(Value::Object(members_of(alloc, members)?))
-}
-
-/// The same, with a copy of a value at a name, in place of a member of that name. The only error is out of memory.
-pub fn object_with(
-    alloc: Global,
-    members: &[(&str, Datum<'_>)],
-    name: &str,
-    value: &Value,
-) -> Result<Value, AllocError>
-    ensures { IfOk result (λ object.
-        view object ≡ object_and members.now name.now (view value.now)) }
-{
-    let mut object = members_of(alloc, members)?;
-    put(&mut object, alloc, name, value.clone()?)?;
-    Ok(Value::Object(object))
 }
 
 /// Appends a value on a line. The only error is out of memory; a beginning of the line may then have been appended.

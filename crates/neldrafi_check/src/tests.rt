@@ -2,9 +2,10 @@
 //! allocation is refused.
 
 use super::{
-    CheckFault, ErrorForm, JsonObjects, LineKind, TextLines, check_document, check_lines,
-    check_table,
+    AnnotationLevel, CheckFault, Counts, ErrorForm, GithubAnnotations, JsonObjects, JunitSuite,
+    LineKind, SarifResults, TextLines, check_document, check_lines, check_table, push_annotation,
 };
+use neldrafi_csv::{Delimiter, ReadFault};
 use neldrafi_schema::{Config, Schema, SchemaErrorKind};
 use neldrafi_table::{EmptyField, Header, TableFault, TableForm, columns_of, open_table};
 use serde_json::Value;
@@ -12,7 +13,6 @@ use std::alloc::{AllocError, Global};
 use std::io::Cursor;
 use std::test::Fail;
 use strkw_pattern::NoPatterns;
-use strkw_records::{Delimiter, ReadFault};
 
 // The value of a JSON text. The failure names a text that is none.
 fn value_of(alloc: Global, text: &'static str) -> Result<Value, Fail> {
@@ -40,6 +40,7 @@ struct Row {
     kind: Option<LineKind>,
     file: &'static [u8],
     written: &'static str,
+    values: u64,
     errors: u64,
 }
 
@@ -64,11 +65,18 @@ fn is_written<F: ErrorForm>(
     let file = Cursor::new(bytes);
     let mut out = Vec::new(alloc);
     let checked = match row.kind {
-        None => check_document(alloc, &schema, file, form, &mut out),
+        None => match check_document(alloc, &schema, file, form, &mut out) {
+            Ok(errors) => Ok(Counts::of_value(errors)),
+            Err(fault) => Err(fault),
+        },
         Some(kind) => check_lines(alloc, &schema, kind, file, form, &mut out),
     };
+    let (values, errors) = (row.values, row.errors);
     match checked {
-        Ok(errors) if errors == row.errors && out.as_slice() == row.written.as_bytes() => Ok(()),
+        Ok(counts)
+            if counts == Counts { values, errors } && out.as_slice() == row.written.as_bytes() => {
+            Ok(())
+        }
         Ok(_) => Err(Fail::new(row.written)),
         Err(fault) => Err(failure_of(fault)),
     }
@@ -87,6 +95,7 @@ fn documents_under_refusal(rt: HostRuntime) -> Result<(), Fail> {
         kind: None,
         file: b"{\n \"b/\": \"xy\",\n \"a\" : 5}",
         written: "f:3:8: /a: 5 is not of type \"string\"\nf:2:8: /b~1: \"xy\" is longer than 1 character\n",
+        values: 1,
         errors: 2,
     };
     is_written(rt.alloc(), SCHEMA, row, &LINES)
@@ -98,6 +107,7 @@ fn valid_documents_under_refusal(rt: HostRuntime) -> Result<(), Fail> {
         kind: None,
         file: b"{\"a\":\"\"}",
         written: "",
+        values: 1,
         errors: 0,
     };
     is_written(rt.alloc(), SCHEMA, row, &LINES)
@@ -109,6 +119,7 @@ fn json_lines_under_refusal(rt: HostRuntime) -> Result<(), Fail> {
         kind: Some(LineKind::Json),
         file: b"{\"a\":\"\"}\n\n {}\r\n\"\xFF\"\n{",
         written: "f:3:2: \"a\" is a required property\nf:4:1: not UTF-8\nf:5:1: not JSON: EOF while parsing\n",
+        values: 2,
         errors: 3,
     };
     is_written(rt.alloc(), SCHEMA, row, &LINES)
@@ -120,6 +131,7 @@ fn lines_of_text_under_refusal(rt: HostRuntime) -> Result<(), Fail> {
         kind: Some(LineKind::Text),
         file: b"ab\r\n\n\xFF\nabc",
         written: "f:1:1: \"ab\" is longer than 1 character\nf:3:1: not UTF-8\nf:4:1: \"abc\" is longer than 1 character\n",
+        values: 3,
         errors: 3,
     };
     is_written(rt.alloc(), r#"{"maxLength":1}"#, row, &LINES)
@@ -131,18 +143,101 @@ fn objects_under_refusal(rt: HostRuntime) -> Result<(), Fail> {
         kind: Some(LineKind::Json),
         file: b"{\"a\":[1]}\n}",
         written: "{\"file\":\"f\",\"instance\":[1],\"keyword\":\"/properties/a/type\",\"kind\":\"type\",\"line\":1,\"location\":\"/a\",\"message\":\"[1] is not of type \\\"string\\\"\",\"position\":6}\n{\"file\":\"f\",\"kind\":\"unread\",\"line\":2,\"message\":\"not JSON: invalid JSON\",\"position\":1}\n",
+        values: 1,
         errors: 2,
     };
     is_written(rt.alloc(), SCHEMA, row, &JsonObjects { file: "f" })
 }
 
-// Whether what a table is found to have is written so, and so many errors are counted.
+#[test]
+fn annotations_under_refusal(rt: HostRuntime) -> Result<(), Fail> {
+    let row = Row {
+        kind: Some(LineKind::Json),
+        file: b"{\"a\":\"\",\"b/\":\"10%:\"}\n}",
+        written: "::error file=a%3Ab%2Cc%25,line=1,col=14::/b~1: \"10%25:\" is longer than 1 character\n::error file=a%3Ab%2Cc%25,line=2,col=1::not JSON: invalid JSON\n",
+        values: 1,
+        errors: 2,
+    };
+    is_written(
+        rt.alloc(),
+        SCHEMA,
+        row,
+        &GithubAnnotations { file: "a:b,c%" },
+    )
+}
+
+#[test]
+fn annotations_of_files_under_refusal(rt: HostRuntime) -> Result<(), Fail> {
+    let mut out = String::new(rt.alloc());
+    push_annotation(AnnotationLevel::Warning, Some("a\r\nb"), "c\r\nd", &mut out)?;
+    push_annotation(AnnotationLevel::Notice, None, "", &mut out)?;
+    if out.as_str() == "::warning file=a%0D%0Ab::c%0D%0Ad\n::notice::\n" {
+        Ok(())
+    } else {
+        Err(Fail::new("annotations of files"))
+    }
+}
+
+#[test]
+fn test_cases_under_refusal(rt: HostRuntime) -> Result<(), Fail> {
+    let row = Row {
+        kind: Some(LineKind::Json),
+        file: b"{\"a\":\"\",\"b/\":\"<&>\"}\n}",
+        written: concat!(
+            "<testcase name=\"a&quot;:1:14\" classname=\"a&quot;\"><failure message=\"/b~1: &quot;&lt;&amp;&gt;&quot; is longer than 1 character\" type=\"maxLength\">",
+            "a&quot;:1:14: /b~1: &quot;&lt;&amp;&gt;&quot; is longer than 1 character</failure></testcase>\n",
+            "<testcase name=\"a&quot;:2:1\" classname=\"a&quot;\"><failure message=\"not JSON: invalid JSON\" type=\"unread\">a&quot;:2:1: not JSON: invalid JSON</failure></testcase>\n",
+        ),
+        values: 1,
+        errors: 2,
+    };
+    is_written(rt.alloc(), SCHEMA, row, &JunitSuite { file: "a\"" })
+}
+
+#[test]
+fn results_under_refusal(rt: HostRuntime) -> Result<(), Fail> {
+    let row = Row {
+        kind: Some(LineKind::Json),
+        file: b"{\"a\":{}}\n}",
+        written: concat!(
+            "{\"level\":\"error\",\"locations\":[{\"logicalLocations\":[{\"fullyQualifiedName\":\"/a\"}],\"physicalLocation\":{\"artifactLocation\":{\"uri\":\"f/%25z\"},\"region\":{\"startColumn\":6,\"startLine\":1}}}],",
+            "\"message\":{\"text\":\"{{}} is not of type \\\"string\\\"\"},\"ruleId\":\"type\"}\n",
+            "{\"level\":\"error\",\"locations\":[{\"physicalLocation\":{\"artifactLocation\":{\"uri\":\"f/%25z\"},\"region\":{\"startColumn\":1,\"startLine\":2}}}],\"message\":{\"text\":\"not JSON: invalid JSON\"},\"ruleId\":\"unread\"}\n",
+        ),
+        values: 1,
+        errors: 2,
+    };
+    is_written(rt.alloc(), SCHEMA, row, &SarifResults { file: "f/%z" })
+}
+
+#[test]
+fn suites_under_refusal(rt: HostRuntime) -> Result<(), Fail> {
+    let suite = JunitSuite {
+        file: "\t\n\r\u{1}",
+    };
+    let mut out = String::new(rt.alloc());
+    suite.push_start(&mut out)?;
+    suite.push_passed(&mut out)?;
+    suite.push_fault("<", &mut out)?;
+    let written = concat!(
+        "<testsuite name=\"&#9;&#10;&#13;\u{FFFD}\">\n",
+        "<testcase name=\"&#9;&#10;&#13;\u{FFFD}\" classname=\"&#9;&#10;&#13;\u{FFFD}\"></testcase>\n",
+        "<testcase name=\"&#9;&#10;&#13;\u{FFFD}\" classname=\"&#9;&#10;&#13;\u{FFFD}\"><error message=\"&lt;\"/></testcase>\n",
+    );
+    if out.as_str() == written {
+        Ok(())
+    } else {
+        Err(Fail::new("suites"))
+    }
+}
+
+// Whether what a table is found to have is written so, and counted so.
 fn table_is_written(
     alloc: Global,
     schema: &'static str,
     file: &'static [u8],
     written: &'static str,
-    errors: u64,
+    counts: Counts,
 ) -> Result<(), Fail> {
     let document = value_of(alloc, schema)?;
     let config = Config::new(&NoPatterns);
@@ -177,7 +272,7 @@ fn table_is_written(
         &LINES,
         &mut out,
     ) {
-        Ok(count) if count == errors && out.as_slice() == written.as_bytes() => Ok(()),
+        Ok(found) if found == counts && out.as_slice() == written.as_bytes() => Ok(()),
         Ok(_) => Err(Fail::new(written)),
         Err(fault) => Err(failure_of(fault)),
     }
@@ -193,5 +288,9 @@ fn tables_under_refusal(rt: HostRuntime) -> Result<(), Fail> {
         "f:5:1: field 1 is not UTF-8\n",
     );
     let file = b"n,t\n7,ab\n\n1\n\xFF,x\n5,\n";
-    table_is_written(rt.alloc(), schema, file, written, 4)
+    let counts = Counts {
+        values: 2,
+        errors: 4,
+    };
+    table_is_written(rt.alloc(), schema, file, written, counts)
 }

@@ -5,9 +5,11 @@ ghost use Rattle.serde_json.specs.View.{view};
 ghost use Rattle.neldrafi_schema.specs.Meaning.{HasErrors};
 ghost use Rattle.neldrafi_schema.specs.machine.Found.{error_seen, errors_of};
 ghost use Rattle.neldrafi_schema.specs.machine.Words.{IsCompiled, lists_in, schemas_in};
+ghost use Rattle.neldrafi_check.specs.Files.{ValueTold};
 ghost use Rattle.neldrafi_check.specs.Messages.{Adds, AreSaid, Says, Told};
 ghost use Rattle.neldrafi_check.specs.machine.Origins.{positions_of};
 
+use crate::counts::Counts;
 use crate::forms::ErrorForm;
 use crate::origin::Origin;
 use neldrafi_schema::{Schema, ValidationError};
@@ -41,6 +43,27 @@ pub(crate) fn push_errors<E: RegexEngine, F: ErrorForm>(
     schema.collect_errors(alloc, value, &mut errors)?;
     push_all(alloc, origin, &errors, form, out)?;
     Ok(errors.len() as u64)
+}
+
+/// The same, and counts the value too.
+pub(crate) fn push_value<E: RegexEngine, F: ErrorForm>(
+    alloc: Global,
+    schema: &Schema<'_, E>,
+    origin: &mut Origin<'_>,
+    value: &Value,
+    form: &F,
+    out: &mut String,
+) -> Result<Counts, AllocError>
+    requires { IsCompiled E.outcome
+        (lists_in admits accepts is_encoding decoding schema.now) schema.now }
+    ensures { let lists = lists_in admits accepts is_encoding decoding schema.now in
+        IfOk result (λ counts. Adds (ValueTold
+        (HasErrors (schemas_in E.outcome schema.now) lists (view value.now))
+        (F.writes form.now) (positions_of origin.old) counts)
+        (string_bytes out.old) (string_bytes out.new)) }
+{
+    let errors = push_errors(alloc, schema, origin, value, form, out)?;
+    Ok(Counts::of_value(errors))
 }
 
 // Appends the message about each of these errors.

@@ -54,3 +54,7 @@ pub mod Listed
 pub mod Identified
 pub mod Named
 pub mod Referring
+pub mod Literals
+pub mod Floats
+pub mod SameKeys
+pub mod AmongKeys

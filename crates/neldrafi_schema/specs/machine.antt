@@ -19,3 +19,4 @@ pub mod Ordered
 pub mod Chosen
 pub mod Conditions
 pub mod Leads
+pub mod Keys

@@ -56,7 +56,7 @@ fn same_members(a: &Map<String, Value>, b: &Map<String, Value>) -> bool
 }
 
 /// Whether no two items are the same.
-pub(crate) fn are_distinct(items: &[Value]) -> bool
+pub(crate) fn are_distinct_in_pairs(items: &[Value]) -> bool
     ensures { result ≡ are_distinct (items_view items.now) }
 {
     for (place, item) in items.iter().enumerate() {
@@ -67,7 +67,7 @@ pub(crate) fn are_distinct(items: &[Value]) -> bool
     true
 }
 
-fn has_same(value: &Value, items: &[Value]) -> bool
+pub(crate) fn has_same(value: &Value, items: &[Value]) -> bool
     ensures { result ≡ has_same (view value.now) (items_view items.now) }
 {
     for item in items {

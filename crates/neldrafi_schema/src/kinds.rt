@@ -16,7 +16,8 @@ ghost use Rattle.neldrafi_schema.specs.machine.Compiled.{branches_of, children_o
 ghost use Rattle.neldrafi_schema.specs.machine.Found.{kind_of, kinds_of};
 ghost use Rattle.neldrafi_schema.specs.machine.Single.{IsPlainVerdict, is_single, looks_beside};
 
-use crate::equality::{are_distinct, same};
+use crate::distinct::are_distinct;
+use crate::equality::same;
 use crate::error::ErrorKind;
 use crate::json_type::JsonType;
 use crate::limits::Limit;

@@ -45,7 +45,7 @@ fn is_float_of(whole: i128, x: f64) -> bool
     }
 }
 
-fn is_between(low: f64, x: f64, high: f64) -> bool
+pub(crate) fn is_between(low: f64, x: f64, high: f64) -> bool
     ensures { result ≡ is_between low x high }
 {
     low <= x && x < high
@@ -75,7 +75,7 @@ pub(crate) fn is_whole(number: Number) -> bool
     !number.is_f64() || is_whole_float(float_of(number))
 }
 
-fn is_whole_float(x: f64) -> bool
+pub(crate) fn is_whole_float(x: f64) -> bool
     ensures { result ≡ is_whole_float x }
 {
     x.trunc() == x
@@ -99,7 +99,7 @@ fn size_of(number: Number) -> Option<u64>
     }
 }
 
-fn float_of(number: Number) -> f64
+pub(crate) fn float_of(number: Number) -> f64
     ensures { result ≡ to_float (number_view number) }
 {
     number.as_f64().unwrap_or(0.0)

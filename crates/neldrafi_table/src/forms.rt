@@ -1,6 +1,6 @@
 //! How the text of a table is read.
 
-use strkw_records::Delimiter;
+use neldrafi_csv::Delimiter;
 
 /// What names the columns.
 #[derive(Clone, Copy, Debug, PartialEq, Eq)]

@@ -1,24 +1,25 @@
 //! The records of a table, each read as a JSON object.
 
-ghost use Rattle.std.specs.Prelude.{◌≡◌, ℕ, List, IfErr, IfOk, IfSome, None, OnOk, Some, length, option_map};
-ghost use Rattle.csv.specs.Records.{AllText, fields_of};
-ghost use Rattle.strkw_records.specs.declared.place.Place.{Place};
-ghost use Rattle.strkw_records.specs.Records.{TakesRecord};
+ghost use Rattle.std.specs.Prelude.{◌≡◌, ℕ, List, IfErr, IfOk, IfSome, None, OnOk, Option, Some, length, option_map};
+ghost use Rattle.csv.specs.Records.{AllText};
+ghost use Rattle.neldrafi_csv.specs.declared.place.Place.{Place};
+ghost use Rattle.neldrafi_csv.specs.Reading.{Explains, values_of};
+ghost use Rattle.neldrafi_csv.specs.Records.{HasNoRecord, IsMisplaced, TakesRecord, texts_of};
 ghost use Rattle.serde_json.specs.View.{members_view, view};
 ghost use Rattle.neldrafi_table.specs.Columns.{columns_seen};
-ghost use Rattle.neldrafi_table.specs.Objects.{IsRead, record_object, with_field, with_fields};
-ghost use Rattle.neldrafi_table.specs.Reading.{HasEnded, HasLeft, IsWhyUnread, TakesNext, delimiter_in, empty_in};
+ghost use Rattle.neldrafi_table.specs.Objects.{IsFirstNotUtf8, IsRead, record_object, with_field, with_fields};
+ghost use Rattle.neldrafi_table.specs.Reading.{HasLeft, IsWhyUnread, TakesNext, delimiter_in, empty_in};
 
 use crate::columns::Column;
 use crate::faults::{RowFault, TableFault};
 use crate::fields::field_value;
 use crate::forms::EmptyField;
-use csv::StringRecord;
 use json::Scratch;
+use neldrafi_csv::{ReadFault, Record, RecordReader};
 use serde_json::{Map, Value, put};
 use std::alloc::{AllocError, Global};
 use std::io::Read;
-use strkw_records::{ReadFault, RecordReader};
+use std::str;
 
 /// A record of data.
 #[derive(Drop)]
@@ -33,10 +34,8 @@ pub struct Row {
 #[derive(Drop)]
 pub struct Rows<R> {
     pub(crate) reader: RecordReader<R>,
-    // The record that was taken last, or that was read ahead.
-    pub(crate) row: StringRecord,
-    // The line of the next record, or that there is none, if that was read ahead.
-    pub(crate) ahead: Option<Option<u64>>,
+    // The next record, or that there is none, if that was read ahead.
+    pub(crate) ahead: Option<Option<Record>>,
     pub(crate) empty: EmptyField,
     pub(crate) scratch: Scratch,
 }
@@ -50,52 +49,51 @@ impl<R: Read> Rows<R> {
     {
         Rows {
             reader,
-            row: StringRecord::new(alloc),
             ahead: None,
             empty,
             scratch: Scratch::new(alloc),
         }
     }
 
-    /// Reads the next record ahead, if none was, and returns the line on which it begins, or `None` if there is no
-    /// more. It stays the next one.
-    pub(crate) fn look(&mut self) -> Result<Option<u64>, ReadFault>
+    /// Reads the next record ahead, if none was, or returns `None` if there is no more. It stays the next one.
+    pub(crate) fn look(&mut self) -> Result<Option<Record>, ReadFault>
         requires { self.old.ahead ≡ None }
         ensures left { (place : Place) (text : List ℕ) → HasLeft R.remaining self.old place text
             → OnOk result (HasLeft R.remaining self.new place text) }
         ensures found { (place : Place) (text : List ℕ) → HasLeft R.remaining self.old place text
-            → IfOk result (λ o. IfSome o (λ line. (behind : Place) × (rest : List ℕ)
-            × TakesRecord (delimiter_in self.old) place text line (fields_of self.new.row)
+            → IfOk result (λ o. IfSome o (λ found. (behind : Place) × (rest : List ℕ)
+            × TakesRecord (delimiter_in self.old) place text found.line (values_of self.new.reader)
             behind rest)) }
         ensures end { (place : Place) (text : List ℕ) → HasLeft R.remaining self.old place text
-            → IfOk result (λ o. o ≡ None → HasEnded (delimiter_in self.old) text) }
+            → IfOk result (λ o. o ≡ None → HasNoRecord text) }
         ensures fault { (place : Place) (text : List ℕ) → HasLeft R.remaining self.old place text
-            → IfErr result (IsWhyUnread R.remaining self.old self.new place text) }
+            → IfErr result (Explains (delimiter_in self.old) place text) }
         ensures delimiter { delimiter_in self.new ≡ delimiter_in self.old }
         ensures empty { empty_in self.new ≡ empty_in self.old }
     {
-        let line = self.reader.read(&mut self.row)?;
-        self.ahead = Some(line);
-        Ok(line)
+        let record = self.reader.read()?;
+        self.ahead = Some(record);
+        Ok(record)
     }
 
-    // Takes the next record, and returns the line on which it begins, or `None` if there is no more.
-    pub(crate) fn take(&mut self) -> Result<Option<u64>, ReadFault>
+    /// Takes the next record, or returns `None` if there is no more.
+    pub(crate) fn take(&mut self) -> Result<Option<Record>, ReadFault>
         ensures taken { (place : Place) (text : List ℕ) → HasLeft R.remaining self.old place text
-            → IfOk result (λ o. IfSome o (λ line.
-            TakesNext R.remaining self.old self.new place text line (fields_of self.new.row))) }
+            → IfOk result (λ o. IfSome o (λ found. TakesNext R.remaining self.old self.new place text
+            found.line (values_of self.new.reader)
+            × IsMisplaced (values_of self.new.reader) found.misplaced)) }
         ensures end { (place : Place) (text : List ℕ) → HasLeft R.remaining self.old place text
-            → IfOk result (λ o. o ≡ None → HasEnded (delimiter_in self.old) text) }
+            → IfOk result (λ o. o ≡ None → HasNoRecord text) }
         ensures fault { (place : Place) (text : List ℕ) → HasLeft R.remaining self.old place text
-            → IfErr result (IsWhyUnread R.remaining self.old self.new place text) }
+            → IfErr result (Explains (delimiter_in self.old) place text) }
         ensures delimiter { delimiter_in self.new ≡ delimiter_in self.old }
         ensures empty { empty_in self.new ≡ empty_in self.old }
     {
-        let Some(line) = self.ahead else {
-            return self.reader.read(&mut self.row);
+        let Some(record) = self.ahead else {
+            return self.reader.read();
         };
         self.ahead = None;
-        Ok(line)
+        Ok(record)
     }
 
     /// Reads the next record as an object of these columns; `None` behind the last.
@@ -103,24 +101,24 @@ impl<R: Read> Rows<R> {
     /// Errors: `Record` if the file cannot be read on, and `Memory`.
     pub fn next(&mut self, alloc: Global, columns: &[Column]) -> Result<Option<Row>, TableFault>
         ensures row { (place : Place) (text : List ℕ) → HasLeft R.remaining self.old place text
-            → IfOk result (λ o. IfSome o (λ row. (fields : List (List ℕ))
-            × TakesNext R.remaining self.old self.new place text row.line fields
-            × IsRead (empty_in self.old) (columns_seen columns.now) fields row.object)) }
+            → IfOk result (λ o. IfSome o (λ row. (values : List (Option (List ℕ)))
+            × TakesNext R.remaining self.old self.new place text row.line values
+            × IsRead (empty_in self.old) (columns_seen columns.now) values row.object)) }
         ensures end { (place : Place) (text : List ℕ) → HasLeft R.remaining self.old place text
-            → IfOk result (λ o. o ≡ None → HasEnded (delimiter_in self.old) text) }
+            → IfOk result (λ o. o ≡ None → HasNoRecord text) }
+        ensures why { (place : Place) (text : List ℕ) → HasLeft R.remaining self.old place text
+            → IfErr result (IsWhyUnread (delimiter_in self.old) place text) }
         ensures delimiter { delimiter_in self.new ≡ delimiter_in self.old }
         ensures empty { empty_in self.new ≡ empty_in self.old }
     {
-        let line = match self.take() {
-            Ok(Some(line)) => line,
-            Ok(None) => return Ok(None),
-            Err(ReadFault::NotUtf8 { line, field }) => {
-                let object = Err(RowFault::NotUtf8(field));
-                return Ok(Some(Row { line, object }));
-            }
-            Err(fault) => return Err(TableFault::Record(fault)),
+        let Some(record) = self.take()? else {
+            return Ok(None);
         };
-        let object = object_of(alloc, columns, self.empty, &self.row, &mut self.scratch)?;
+        let line = record.line;
+        let object = match record.misplaced {
+            Some(field) => Err(RowFault::MisplacedQuote(field)),
+            None => object_of(alloc, columns, self.empty, &self.reader, &mut self.scratch)?,
+        };
         Ok(Some(Row { line, object }))
     }
 
@@ -130,47 +128,56 @@ impl<R: Read> Rows<R> {
     }
 }
 
-// The object of a record, or why it is none. The only error is out of memory.
-fn object_of(
+// The object of a record without misplaced quotes, or why it is none. The only error is out of memory.
+fn object_of<R: Read>(
     alloc: Global,
     columns: &[Column],
     empty: EmptyField,
-    row: &StringRecord,
+    reader: &RecordReader<R>,
     scratch: &mut Scratch,
 ) -> Result<Result<Value, RowFault>, AllocError>
-    ensures { IfOk result (IsRead empty (columns_seen columns.now) (fields_of row.now)) }
+    ensures { IsMisplaced (values_of reader.now) None
+        → IfOk result (IsRead empty (columns_seen columns.now) (values_of reader.now)) }
 {
-    let (found, expected) = (row.len(), columns.len());
+    let (found, expected) = (reader.len(), columns.len());
     if found != expected {
         return Ok(Err(RowFault::Fields { found, expected }));
     }
     let mut members = Map::new(alloc);
-    put_fields(alloc, columns, empty, row, scratch, &mut members)?;
-    Ok(Ok(Value::Object(members)))
+    match put_fields(alloc, columns, empty, reader, scratch, &mut members)? {
+        Some(field) => Ok(Err(RowFault::NotUtf8(field))),
+        None => Ok(Ok(Value::Object(members))),
+    }
 }
 
-// Puts the fields of a record, one for each column, into an object.
-fn put_fields(
+// Puts the fields of a record, one for each column, into an object, or returns the number, from 1, of the first that is
+// not UTF-8.
+fn put_fields<R: Read>(
     alloc: Global,
     columns: &[Column],
     empty: EmptyField,
-    row: &StringRecord,
+    reader: &RecordReader<R>,
     scratch: &mut Scratch,
     members: &mut Map<String, Value>,
-) -> Result<(), AllocError>
-    requires { length columns.now ≡ length (fields_of row.now) }
-    ensures put { OnOk result (members_view members.new.entries
-        ≡ with_fields empty (columns_seen columns.now) (fields_of row.now)
+) -> Result<Option<usize>, AllocError>
+    requires { length columns.now ≡ length (values_of reader.now) }
+    ensures put { IfOk result (λ o. o ≡ None → members_view members.new.entries
+        ≡ with_fields empty (columns_seen columns.now) (texts_of (values_of reader.now))
         (members_view members.old.entries)) }
-    ensures text { OnOk result (AllText (fields_of row.now)) }
+    ensures text { IfOk result (λ o. o ≡ None → AllText (texts_of (values_of reader.now))) }
+    ensures first { IfOk result (λ o. IfSome o
+        (IsFirstNotUtf8 (texts_of (values_of reader.now)))) }
 {
     for at in 0..columns.len() {
         let column = &columns[at];
-        let field = row.get(at).unwrap_or("");
+        let bytes = reader.field(at).unwrap_or(b"");
+        let Ok(field) = str::from_utf8(bytes) else {
+            return Ok(Some(at + 1));
+        };
         let value = field_value(alloc, empty, column.types, field, scratch)?;
         put_value(alloc, &column.name, value, members)?;
     }
-    Ok(())
+    Ok(None)
 }
 
 // Puts a value, if there is one, into an object.

@@ -1,23 +1,22 @@
 //! A table, read up to its first record of data.
 
 ghost use Rattle.std.specs.Prelude.{◌≡◌, ℕ, List, IfErr, IfOk, None, Some};
-ghost use Rattle.csv.specs.Reading.{strip_bom};
 ghost use Rattle.csv.specs.Records.{fields_of};
-ghost use Rattle.strkw_records.specs.declared.place.Place.{Place};
-ghost use Rattle.strkw_records.specs.Lines.{first_place};
+ghost use Rattle.neldrafi_csv.specs.declared.place.Place.{Place};
+ghost use Rattle.neldrafi_csv.specs.Lines.{first_place};
+ghost use Rattle.neldrafi_csv.specs.Marks.{without_mark};
 ghost use Rattle.neldrafi_table.specs.Headers.{Heads, IsWhyUnheaded};
 ghost use Rattle.neldrafi_table.specs.Reading.{HasLeft, delimiter_in, empty_in};
 ghost use Rattle.neldrafi_table.specs.declared.forms.Header.TheVariants.{Absent, First};
 
 use crate::faults::TableFault;
 use crate::forms::{Header, TableForm};
-use crate::header::{duplicate, numbered};
+use crate::header::{duplicate, names_of, numbered};
 use crate::rows::Rows;
 use csv::StringRecord;
-use json::Scratch;
+use neldrafi_csv::RecordReader;
 use std::alloc::Global;
 use std::io::Read;
-use strkw_records::{Limits, RecordReader};
 
 /// A table: the names of its columns, and its records of data.
 #[derive(Drop)]
@@ -30,7 +29,7 @@ pub struct Table<R> {
 
 /// Reads the names of the columns of a CSV file (RFC 4180, section 2). A byte order mark at the start is dropped.
 ///
-/// Errors: `NoHeader`, `Duplicate`, `Record` if the first record cannot be read, and `Memory`.
+/// Errors: `NoHeader`, `Names`, `Duplicate`, `Record` if the first record cannot be read, and `Memory`.
 pub fn open_table<R: Read + Drop>(
     alloc: Global,
     file: R,
@@ -38,14 +37,14 @@ pub fn open_table<R: Read + Drop>(
 ) -> Result<Table<R>, TableFault>
     ensures heads { (text : List ℕ) → R.remaining file ≡ Some text
         → IfOk result (λ table. (place : Place) × (left : List ℕ)
-        × Heads form.header form.delimiter.byte (strip_bom text) (fields_of table.names) place left
+        × Heads form.header form.delimiter.byte (without_mark text) (fields_of table.names) place left
         × HasLeft R.remaining table.rows place left) }
     ensures delimiter { IfOk result (λ table. delimiter_in table.rows ≡ form.delimiter.byte) }
     ensures empty { IfOk result (λ table. empty_in table.rows ≡ form.empty) }
     ensures why { (text : List ℕ) → R.remaining file ≡ Some text
-        → IfErr result (IsWhyUnheaded form.header form.delimiter.byte (strip_bom text)) }
+        → IfErr result (IsWhyUnheaded form.header form.delimiter.byte (without_mark text)) }
 {
-    let reader = RecordReader::with_delimiter(alloc, file, Limits::none(), form.delimiter)?;
+    let reader = RecordReader::new(alloc, file, form.delimiter)?;
     let mut rows = Rows::new(alloc, reader, form.empty);
     let names = names_by(alloc, form.header, &mut rows)?;
     Ok(Table { names, rows })
@@ -84,10 +83,14 @@ fn read_names<R: Read>(alloc: Global, rows: &mut Rows<R>) -> Result<StringRecord
     ensures why { (text : List ℕ) → HasLeft R.remaining rows.old first_place text
         → IfErr result (IsWhyUnheaded First (delimiter_in rows.old) text) }
 {
-    if rows.take()?.is_none() {
+    let Some(record) = rows.take()? else {
         return Err(TableFault::NoHeader);
-    }
-    let names = rows.row.clone()?;
+    };
+    let line = record.line;
+    let names = match names_of(alloc, &rows.reader, record.misplaced)? {
+        Ok(names) => names,
+        Err(why) => return Err(TableFault::Names { line, why }),
+    };
     match duplicate(alloc, &names)? {
         Some(name) => Err(TableFault::Duplicate(String::from_str(alloc, name)?)),
         None => Ok(names),
@@ -109,5 +112,5 @@ fn number_columns<R: Read>(alloc: Global, rows: &mut Rows<R>) -> Result<StringRe
     if rows.look()?.is_none() {
         return Ok(StringRecord::new(alloc));
     }
-    Ok(numbered(alloc, rows.row.len())?)
+    Ok(numbered(alloc, rows.reader.len())?)
 }

@@ -5,12 +5,12 @@ use super::{
     EmptyField, Header, TableFault, TableForm, columns_of, missing_column, open_table,
     unexpected_column,
 };
+use neldrafi_csv::{Delimiter, ReadFault};
 use serde_json::Value;
 use std::alloc::{AllocError, Global};
 use std::fmt::Write;
 use std::io::Cursor;
 use std::test::Fail;
-use strkw_records::{Delimiter, ReadFault};
 
 // The value of a JSON text. The failure names a text that is none.
 fn value_of(alloc: Global, text: &'static str) -> Result<Value, Fail> {
@@ -26,6 +26,7 @@ fn failure_of(fault: TableFault) -> Fail {
     match fault {
         TableFault::Memory | TableFault::Record(ReadFault::Memory) => Fail::from(AllocError),
         TableFault::NoHeader => Fail::new("no header"),
+        TableFault::Names { .. } => Fail::new("names"),
         TableFault::Duplicate(_) => Fail::new("a duplicate"),
         TableFault::Record(_) => Fail::new("a record"),
     }
@@ -130,13 +131,15 @@ fn records_under_refusal(rt: HostRuntime) -> Result<(), Fail> {
         rt.alloc(),
         "true",
         form,
-        b"\xEF\xBB\xBFa,b\r\n\"1\n\"\"2\",3\n\n4\n5,\xFF\n6,7,8\n9,10",
+        b"\xEF\xBB\xBFa,b\r\n\"1\n\"\"2\",3\n\n4\n5,\xFF\n6,7,8\n9,\"x\"y\n12\",7,8\n9,10",
         concat!(
             "2 {\"a\":\"1\\n\\\"2\",\"b\":\"3\"}\n",
             "5 expected 2 fields, found 1\n",
             "6 field 2 is not UTF-8\n",
             "7 expected 2 fields, found 3\n",
-            "8 {\"a\":\"9\",\"b\":\"10\"}\n",
+            "8 a quote in field 2 must be doubled and the field quoted\n",
+            "9 a quote in field 1 must be doubled and the field quoted\n",
+            "10 {\"a\":\"9\",\"b\":\"10\"}\n",
         ),
     )
 }
@@ -197,6 +200,11 @@ fn headers_under_refusal(rt: HostRuntime) -> Result<(), Fail> {
     refuses(alloc, b"\r\n\n", "no header: the file has no record")?;
     refuses(alloc, b"a,b,a\n", "two columns are named \"a\"")?;
     refuses(alloc, b"a,\xFF\n", "1: field 2 is not UTF-8")?;
+    refuses(
+        alloc,
+        b"a,b\"\n",
+        "1: a quote in field 2 must be doubled and the field quoted",
+    )?;
     refuses(
         alloc,
         b"\na,\"b\n",

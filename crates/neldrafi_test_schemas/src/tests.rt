@@ -8,6 +8,7 @@ mod basics;
 mod by_draft;
 mod combined;
 mod depth;
+mod distinct;
 mod documents;
 mod drafts;
 mod dynamic;

@@ -6,8 +6,7 @@ use Rattle.strkw_keywords.specs.declared.options.Options.{Options}
 use Rattle.strkw_keywords.specs.Meanings.{Lists, Row, no_lists}
 use Rattle.strkw_keywords.specs.Object.{Settings, default_options}
 use Rattle.strkw_report.specs.Drafts.{draft_numbered}
-use Rattle.strkw_regex_reader.specs.machine.Taken.{takes_pattern}
-use Rattle.strkw_ecma.specs.machine.Outcomes.{pattern_outcome}
+use Rattle.strkw_ecma.specs.machine.Lenient.{takes_leniently, lenient_outcome}
 use Rattle.strkw_companions.specs.declared.companion.Companion.{Companion}
 use Rattle.strkw_companions.specs.Companions.{name_of, admits, companions_of}
 use Rattle.strkw_c.specs.declared.settings.Choices.{Choices}
@@ -45,7 +44,7 @@ abbrev pub lists_for : Draft → Bool → Lists
 lists_for draft companions =
     record no_lists { formats = map companion_row (registered_companions draft companions) }
 
--- the object stands at the root, and the patterns are those of ECMA-262 that `strkw_ecma` takes:
+-- the object stands at the root, and the patterns are those whose strict form `strkw_ecma` takes:
 -- `IsExact` of its laws says which, and what they match
 abbrev pub settings_by : Draft → Options → Lists → Settings
 settings_by draft options lists = record {
@@ -53,8 +52,8 @@ settings_by draft options lists = record {
   place = record { schema = []; prefix = None };
   options = options;
   lists = lists;
-  takes = takes_pattern;
-  outcome = pattern_outcome;
+  takes = takes_leniently;
+  outcome = lenient_outcome;
 }
 
 abbrev pub settings_for : Draft → Choices → Settings

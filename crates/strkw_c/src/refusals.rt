@@ -17,7 +17,7 @@ use crate::settings::choices_of;
 use crate::statuses::{DONE, NO_DRAFT, NO_OPTION, NO_ROOM, NO_SCHEMA, OUT_OF_MEMORY, REFUSED};
 use serde_json::Value;
 use std::alloc::{AllocError, Global};
-use strkw_ecma::{EcmaMatcher, why_refused};
+use strkw_ecma::{EcmaMatcher, why_refused_leniently};
 use strkw_keywords::Checks;
 use strkw_object::StringKeywords;
 use strkw_report::{CompileError, CompileErrorKind, draft_numbered};
@@ -166,7 +166,7 @@ fn shown_text(alloc: Global, shown: &str, words: &str) -> Result<String, AllocEr
 
 // Why a pattern is not taken, in words.
 fn words_about(alloc: Global, pattern: &str) -> Result<String, AllocError> {
-    match why_refused(alloc, pattern)? {
+    match why_refused_leniently(alloc, pattern)? {
         Some(why) => format!(in alloc; "{why}"),
         None => Ok(String::new(alloc)),
     }

@@ -14,7 +14,7 @@ ghost use Rattle.strkw_c.specs.Verdicts.{IsSchema, Fails, FailsObject};
 
 use serde_json::{Map, Value};
 use std::alloc::{AllocError, Global};
-use strkw_ecma::{EcmaMatcher, EcmaPatterns};
+use strkw_ecma::{EcmaMatcher, LenientPatterns};
 use strkw_json::read_value;
 use strkw_keywords::{Checks, Context, Options};
 use strkw_object::{StringKeywords, compile_strings};
@@ -40,7 +40,8 @@ impl<E: Into<AllocError> + Drop> From<E> for Failure {
     }
 }
 
-/// The compiled object of a schema that is given by its bytes. Its patterns are those of `strkw_ecma`.
+/// The compiled object of a schema that is given by its bytes. Its patterns are those that
+/// `LenientPatterns` of `strkw_ecma` takes.
 pub(crate) fn compile(
     alloc: Global,
     draft: Draft,
@@ -81,7 +82,7 @@ fn compile_object(
         (lists_of admits accepts is_encoding decoding checks.now))
         (members_view object.now.entries)) }
 {
-    let mut ctx = Context::new(alloc, draft, &EcmaPatterns);
+    let mut ctx = Context::new(alloc, draft, &LenientPatterns);
     ctx.options = options;
     ctx.checks = Checks {
         formats: checks.formats,

@@ -17,3 +17,6 @@ pub mod Tables
 pub mod Complements
 pub mod Anchors
 pub mod DfaRows
+pub mod StrictForms
+pub mod StrictPatterns
+pub mod StrictReasons

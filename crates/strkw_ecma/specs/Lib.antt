@@ -1,3 +1,4 @@
 pub mod Laws
+pub mod Lenient
 -- How the code reads and searches.
 pub mod machine

@@ -7,3 +7,5 @@ pub mod Dfa
 pub mod Searches
 pub mod Links
 pub mod Chains
+pub mod StrictForm
+pub mod Lenient

@@ -1,8 +1,10 @@
 //! Laws of the definitions, as functions with empty bodies.
 
-ghost use Rattle.std.specs.Prelude.{◌≡◌, ℕ, ◌*◌, ◌≤◌, ◌↔◌, true, List, length, reverse};
+ghost use Rattle.std.specs.Prelude.{◌≡◌, ◌∷◌, ◌++◌, ℕ, ◌*◌, ◌<◌, ◌≤◌, ◌↔◌, true, false, List, IsTrue, length, reverse};
+ghost use Rattle.std.specs.Str.{byte};
 ghost use Rattle.strkw_ecma.specs.Laws.{AreComplements, any_character, IsExact, IsPattern};
 ghost use Rattle.strkw_ecma.specs.Laws.{word_edge, no_word_edge};
+ghost use Rattle.strkw_ecma.specs.Lenient.{byte_escape, is_lenient, strict_form};
 ghost use Rattle.strkw_regex_core.specs.Tree.{Pattern, start, end, boundary, no_boundary, look, lookbehind, lookahead};
 ghost use Rattle.strkw_regex_core.specs.machine.LeadingLookahead.{AreFound, parts};
 ghost use Rattle.strkw_regex_core.specs.Matchers.{AreOrdered, backward, Continuation, forward, matcher};
@@ -15,6 +17,8 @@ ghost use Rattle.strkw_regex_core.specs.machine.MarkedMeaning.{Found as FoundMar
 ghost use Rattle.strkw_regex_core.specs.machine.MarkedPattern.{MarkedPattern};
 ghost use Rattle.strkw_regex_search.specs.machine.Counted.{AreSearchedWithin};
 ghost use Rattle.strkw_regex_reader.specs.Patterns.{pattern};
+ghost use Rattle.strkw_regex_reader.specs.machine.Taken.{takes_pattern};
+ghost use Rattle.strkw_regex_grammar.specs.Codes.{code_spelling, code_value, IsCode};
 ghost use Rattle.strkw_regex_grammar.specs.Regex.{Disjunction, IsRegex};
 ghost use Rattle.strkw_charset.specs.Sets.{digits, non_digits, white_space, non_white_space, word_characters, non_word_characters};
 
@@ -105,4 +109,27 @@ pub fn mirrors_are_found()
 /// within its limits, is one that `is_valid_regex` takes.
 pub fn taken_patterns_are_valid()
     ensures { (source : List ℕ) (d : Disjunction) → IsPattern source d → IsRegex source }
+{}
+
+/// A pattern of Unicode mode is its own strict form. So `LenientPatterns` takes what `EcmaPatterns` takes, with the
+/// same outcomes.
+pub fn strict_patterns_stay()
+    ensures valid { (source : List ℕ) → IsRegex source → strict_form source ≡ source }
+    ensures taken { (source : List ℕ) → IsTrue (takes_pattern source)
+        → strict_form source ≡ source }
+{}
+
+/// A strict form is its own strict form: no escape is left that Unicode mode does not have.
+pub fn strict_forms_are_strict()
+    ensures { (source : List ℕ) → strict_form (strict_form source) ≡ strict_form source }
+{}
+
+/// An escape that Unicode mode does not have is one by a number in the strict form, and that number is the one of the
+/// character.
+pub fn lenient_escapes_are_rewritten()
+    ensures first { (c : ℕ) (rest : List ℕ) → is_lenient false c ≡ true
+        → strict_form (byte "\\" ∷ c ∷ rest)
+        ≡ byte "\\" ∷ (code_spelling (byte_escape c) ++ strict_form rest) }
+    ensures escape { (c : ℕ) → c < 0x80 → IsCode (byte_escape c) }
+    ensures character { (c : ℕ) → c < 0x80 → code_value (byte_escape c) ≡ c }
 {}

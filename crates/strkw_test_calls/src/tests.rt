@@ -11,5 +11,4 @@ mod names;
 mod objects;
 mod owned;
 mod patterns;
-mod records;
 mod reports;

@@ -29,6 +29,8 @@
 //!   on texts `yes` and `no`;
 //! - `searches`: `rows` of a pattern of ECMA-262, a text, and whether it is found there; `long searches`: the same by
 //!   name, each text by its parts and how often each stands there, null where the pattern is not taken;
+//! - `searches`, `long searches` and `refusals` with `lenient` set: the same by the engine that takes escapes of
+//!   patterns without the flag `u`;
 //! - `tables`: `rows` of a pattern, and whether its engine reads matches off a table;
 //! - `refusals`: `of` words that tell why a pattern is not taken, or `taken`, the `patterns` of which they are told,
 //!   and `long` ones, each with its parts as its `pattern`;

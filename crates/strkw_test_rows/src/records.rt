@@ -1,13 +1,12 @@
 //! Rows of records: the bytes of a CSV file (`records`), each as the character of its number. A row may have a
-//! `delimiter`, and say how many bytes a `record` and a `field` may have.
+//! `delimiter`.
 
-use csv::{ByteRecord, StringRecord};
+use neldrafi_csv::{Delimiter, ReadFault, RecordReader};
 use serde_json::Value;
 use std::alloc::{AllocError, Global};
-use strkw_records::{Delimiter, Limits, ReadFault, RecordReader};
 
-/// Appends the records of a file: for each a line with the line on which it begins and its fields, byte by byte, and at
-/// the end how many there are, or why they could not be read. A field that is not UTF-8 has a line behind these.
+/// Appends the records of a file: for each a line with the line on which it begins and its fields, byte by byte, null
+/// for one with a misplaced quote, and at the end how many there are, or why they cannot be read.
 pub fn push_records(
     alloc: Global,
     row: &Value,
@@ -16,10 +15,7 @@ pub fn push_records(
 ) -> Result<(), AllocError> {
     let file = bytes_of(alloc, text)?;
     match push_each(alloc, row, &file, out) {
-        Ok(count) => {
-            write!(out, "{count} records")?;
-            push_broken(alloc, row, &file, out)
-        }
+        Ok(count) => write!(out, "{count} records"),
         Err(fault) => write!(out, "{fault}"),
     }
 }
@@ -35,24 +31,6 @@ fn bytes_of(alloc: Global, text: &str) -> Result<Vec<u8>, AllocError> {
     Ok(bytes)
 }
 
-// A reader of the file of a row.
-fn reader_of<'a>(
-    alloc: Global,
-    row: &Value,
-    file: &'a [u8],
-) -> Result<RecordReader<&'a [u8]>, AllocError> {
-    let limits = Limits {
-        record: limit_in(row, "record"),
-        field: limit_in(row, "field"),
-    };
-    RecordReader::with_delimiter(alloc, file, limits, delimiter_in(row))
-}
-
-// The limit of this name.
-fn limit_in(row: &Value, name: &str) -> Option<usize> {
-    usize::try_from(row.get(name)?.as_u64()?).ok()
-}
-
 // The delimiter of a row: a comma, unless it says another.
 fn delimiter_in(row: &Value) -> Delimiter {
     match row.get("delimiter").and_then(Value::as_str) {
@@ -66,27 +44,29 @@ fn delimiter_in(row: &Value) -> Delimiter {
 
 // Appends the line of each record, and answers how many there are.
 fn push_each(alloc: Global, row: &Value, file: &[u8], out: &mut String) -> Result<u64, ReadFault> {
-    let mut reader = reader_of(alloc, row, file)?;
-    let mut record = ByteRecord::new(alloc);
+    let mut reader = RecordReader::new(alloc, file, delimiter_in(row))?;
     for count in 0..u64::MAX {
-        match reader.read_bytes(&mut record)? {
-            Some(line) => push_record(alloc, line, &record, out)?,
+        match reader.read()? {
+            Some(record) => push_record(alloc, record.line, &reader, out)?,
             None => return Ok(count),
         }
     }
     Ok(u64::MAX)
 }
 
-// Appends the line of a record.
+// Appends the line of the record that was read last.
 fn push_record(
     alloc: Global,
     line: u64,
-    record: &ByteRecord,
+    reader: &RecordReader<&[u8]>,
     out: &mut String,
 ) -> Result<(), AllocError> {
     let mut fields = Vec::new(alloc);
-    for field in record.iter() {
-        fields.push(Value::String(text_of(alloc, field)?))?;
+    for at in 0..reader.len() {
+        fields.push(match reader.field(at) {
+            Some(field) => Value::String(text_of(alloc, field)?),
+            None => Value::Null,
+        })?;
     }
     let fields = Value::Array(fields);
     writeln!(out, "{line}: {fields}")
@@ -99,29 +79,4 @@ fn text_of(alloc: Global, bytes: &[u8]) -> Result<String, AllocError> {
         text.push(char::from(*byte))?;
     }
     Ok(text)
-}
-
-// Appends why the records are no texts, if a field of one is not UTF-8.
-fn push_broken(
-    alloc: Global,
-    row: &Value,
-    file: &[u8],
-    out: &mut String,
-) -> Result<(), AllocError> {
-    match read_texts(alloc, row, file) {
-        Ok(()) => Ok(()),
-        Err(fault) => write!(out, "\n{fault}"),
-    }
-}
-
-// Reads each record as one of texts.
-fn read_texts(alloc: Global, row: &Value, file: &[u8]) -> Result<(), ReadFault> {
-    let mut reader = reader_of(alloc, row, file)?;
-    let mut record = StringRecord::new(alloc);
-    for _ in 0..u64::MAX {
-        if reader.read(&mut record)?.is_none() {
-            return Ok(());
-        }
-    }
-    Ok(())
 }

@@ -48,6 +48,12 @@ def searches(rows):
     return {"ask": "searches", "rows": rows}, len(rows)
 
 
+def lenient(row):
+    """The same row, for the engine that takes escapes of patterns without the flag `u`."""
+    made, answers = row
+    return {**made, "lenient": True}, answers
+
+
 def long_searches(rows):
     """Searches whose patterns and texts are lists of parts, each with how many times it stands."""
     rows = [{"pattern": pattern, "text": text, "found": found} for pattern, text, found in rows]

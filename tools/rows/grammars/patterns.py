@@ -11,6 +11,7 @@ from rows.grammars.looks import (GLANCES, LOOKS_AHEAD, ahead_at_front, ahead_of_
 from rows.grammars.tables import kind_rows, like_class_rows, table_limit_rows
 from rows.grammars.limits import ahead_syntax_rows, limit_rows
 from rows.grammars.members import end_rows
+from rows.grammars.lenient import lenient_rows
 from rows.grammars.whole_patterns import character_rows, place_rows, whole_property_rows, whole_rows
 from rows.grammars.places import (class_member_rows, edge_character_rows, large_rows, many_rows, needed_rows,
                                   never_rows, placed_piece_rows, placed_reason_rows, placed_term_rows, reading_rows,
@@ -82,4 +83,4 @@ def ecma_rows():
                    told_beside_rows, nested_piece_rows, beside_search_rows, item_rows, item_search_rows,
                    many_piece_rows, step_rows, nested_step_rows, choice_rows, inside_rows, wide_text_rows,
                    set_sweep_rows, inner_body_rows, rowed_assertion_rows, gap_rows, category_run_rows,
-                   extension_end_rows, far_piece_rows, far_content_rows, far_member_rows)
+                   extension_end_rows, far_piece_rows, far_content_rows, far_member_rows, lenient_rows)

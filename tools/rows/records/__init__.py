@@ -7,12 +7,11 @@ from rows.records import made
 SECTIONS = (
     ("fields of each kind beside one another: empty, blank, in quotes, not UTF-8", made.fields),
     ("records of more fields than the first and of fewer", made.widths),
-    ("limits of a record and of a field: the first byte that passes one is told of", made.limits),
-    ("files whose fields another delimiter parts, with limits", made.parted),
+    ("files whose fields another delimiter separates", made.parted),
     ("each character of ASCII parts fields, but a quote, CR and LF", made.delimiters),
     ("a byte order mark is no part of the file: it counts in no record and in no field", made.marked),
     ("line ends of each kind in quotes and between records", made.ends),
-    ("what stands behind a closing quote, and before an opening one, is of the field", made.behind_quotes),
+    ("a quote is misplaced if text follows it in the field, or precedes it", made.behind_quotes),
     ("each byte but a quote in fields and at their ends, with quotes and without", made.bytes_in_fields),
     ("a quote that stays open is told on its line", made.open_quotes),
 )

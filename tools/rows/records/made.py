@@ -1,4 +1,4 @@
-"""Files by product: fields, quotes, what stands beside them, line ends, delimiters and limits; a byte each character."""
+"""Files by product: fields, quotes, what is beside them, line ends and delimiters; a byte each character."""
 import json
 from itertools import product
 
@@ -7,10 +7,7 @@ from rows.records.reading import told
 # Fields as they stand in a file: each of them is not UTF-8, is empty, or has a blank or more.
 FIELDS = ("", '""', " ", "x", "xx", "\u00ff", "x\u00ff", "\u00c3\u00a9", "\u00c2\u00a0", "\u00ef\u00bb\u00bf",
           "\u00e2\u0080\u008b", "\t")
-# First records by which limits are tried, with and without quotes, doubled quotes and line ends in quotes.
-RECORDS = ("a", "abc", ",", ",,", "a,", ",a", "ab,c", "a,bc", '""', '"ab"', '"a""b"', '"a\n"', '"\nab"',
-           'a,"\n\r\nb",c', '"a\r\n,"', '"",""', '"ab"c', 'a"b', "\u00e9", "a,\u00e9b")
-# Fields in quotes, and what stands behind the closing quote: it belongs to the field, be it blanks or another quote.
+# Fields in quotes, and what follows the closing quote: with it the quote is misplaced.
 QUOTED = ('""', '"a"', '"a""b"', '"a,b"', '"a\nb"', '" "', '"a "')
 BEHIND_QUOTES = (" ", "  ", "\t", " x", "x ", "x", ' "', ' "x"', 'x"y"', "'", "\\", ";",
                  "\u00c2\u00a0", "\u00ff", "\u00e2\u0080\u008b")
@@ -32,11 +29,6 @@ def of_file(text, **given):
     return as_row(text, **given), told(text, **given)
 
 
-def limits_of(record, field):
-    """The members for these limits."""
-    return {name: limit for name, limit in (("record", record), ("field", field)) if limit is not None}
-
-
 def fields():
     """Fields of each kind beside one another."""
     for first, second in product(FIELDS, repeat=2):
@@ -51,17 +43,10 @@ def widths():
         yield of_file("".join(",".join("x" * count) + "\n" for count in counts))
 
 
-def limits():
-    """Limits of a record and of a field, and records of which the first byte that passes one is told."""
-    for record, field, text in product((None, 0, 1, 2, 3), (None, 0, 1, 2), RECORDS):
-        yield of_file(f"{text}\n", **limits_of(record, field))
-        yield of_file(f"\n\r\n{text}\n", **limits_of(record, field))
-
-
 def parted():
-    """Files whose fields another delimiter parts, with limits."""
-    for delimiter, given, text in product((";", "\t", "x", "\x7f"), ({}, {"record": 3}, {"field": 1}), PARTED):
-        yield of_file(text.replace("~", delimiter), delimiter=delimiter, **given)
+    """Files whose fields another delimiter separates."""
+    for delimiter, text in product((";", "\t", "x", "\x7f"), PARTED):
+        yield of_file(text.replace("~", delimiter), delimiter=delimiter)
 
 
 def delimiters():
@@ -73,10 +58,9 @@ def delimiters():
 
 
 def marked():
-    """Files behind a byte order mark, which is no part of their first record, and limits of that."""
-    for record, field, text in product((None, 0, 1, 2, 3), (None, 0, 1, 2), ("a", "ab", '"a"', "a,b", "\u00e9")):
-        given, text = limits_of(record, field), text + "\nab\n"
-        yield as_row(MARK + text, **given), told(text, **given)
+    """Files behind a byte order mark, which is no part of their first record, and marks elsewhere."""
+    for text in ("a", "ab", '"a"', "a,b", "\u00e9"):
+        yield as_row(MARK + text + "\nab\n"), told(text + "\nab\n")
     for text in (f"a\n{MARK}b\n", f"\n{MARK}a\n", f"a,{MARK}\n", f"{MARK[:2]}a\n", f"{MARK[:1]}", f"a{MARK}"):
         yield of_file(text)
     yield as_row(2 * MARK + "a\n"), told(MARK + "a\n")
@@ -93,14 +77,13 @@ def ends():
 
 
 def behind_quotes():
-    """Fields in quotes with something behind the closing quote, or with a blank before the opening one."""
+    """Fields in quotes with text behind the closing quote or before the opening one, by which it is misplaced."""
     for front, quoted, behind in product(("", " ", "\t"), QUOTED, ("", *BEHIND_QUOTES)):
         if not front or quoted[1] not in "a" or quoted == '"a"':
             yield of_file(f"a,b\n{front}{quoted}{behind},x\nx,{front}{quoted}{behind}\n")
         if not front:
             yield of_file(f"a\n{quoted}{behind}\n{quoted}{behind}\r\n")
-            for most in (0, 1, 2):
-                yield of_file(f"{quoted}{behind},x\n", field=most)
+            yield of_file(f"{quoted}{behind},x\n")
 
 
 def bytes_in_fields():

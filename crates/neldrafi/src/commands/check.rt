@@ -4,34 +4,38 @@ ghost use Rattle.neldrafi_schema.specs.machine.Words.{IsCompiled, lists_in};
 
 use crate::building::{Argument, Takes, subcommand};
 use crate::documents::{
-    FurtherDocument, borrowed, fault_of as refusal_fault, read_documents, require_known,
+    FurtherDocument, borrowed, fault_of as refusal_fault, read_documents, require_checks,
+    require_known,
 };
 use crate::faults::{Fault, Reach};
 use crate::file_kinds::{FILE_KIND_NAMES, FileKind};
 use crate::files::outcome_of_fault;
 use crate::inputs::{InputFault, InputFile, STANDARD_INPUT};
 use crate::known_formats::checks_of;
+use crate::message_form::{MESSAGE_OUTPUT, MessageForm};
 use crate::options::{
-    COLOR, DRAFT, FILES, MAX_ERRORS, OUTPUT, OutputForm, QUIET, Wanted, draft_of,
+    ALLOW_UNKNOWN, COLOR, DOCUMENT, DRAFT, FILES, MAX_ERRORS, QUIET, Wanted, draft_of,
 };
 use crate::outcome::Outcome;
 use crate::output::{FaultyWrite, Output};
+use crate::report::Report;
 use crate::schemas::read_schema;
+use crate::summary::Summary;
 use crate::tables::{
     DELIMITER, EMPTY, NO_HEADER, TableOptions, columns_by, fault_of as table_fault, warn,
 };
 use crate::telling::Subject;
 use clap::{ArgMatches, Command};
 use neldrafi_check::{
-    CheckFault, ErrorForm, JsonObjects, LineKind, Shown, TextLines, check_document, check_lines,
-    check_table,
+    CheckFault, Counts, ErrorForm, GithubAnnotations, JsonObjects, JunitSuite, LineKind,
+    SarifResults, Shown, TextLines, check_document, check_lines, check_table,
 };
 use neldrafi_schema::{Config, Schema};
 use neldrafi_table::open_table;
 use serde_json::Value;
 use std::alloc::{AllocError, Global};
 use strkw_companions::companions_of;
-use strkw_ecma::EcmaPatterns;
+use strkw_ecma::LenientPatterns;
 use strkw_keywords::NamedFormat;
 use strkw_pattern::RegexEngine;
 use strkw_report::Draft;
@@ -48,9 +52,6 @@ const AS: &str = "as";
 // The option for the name of standard input.
 const STDIN_NAME: &str = "name";
 
-// The option for further documents.
-const DOCUMENT: &str = "document";
-
 // The option for which formats are checked, and its words.
 const FORMATS: &str = "formats";
 
@@ -60,8 +61,8 @@ const ANNOTATE: &str = "annotate";
 
 const FORMAT_WORDS: &[&str] = &[CHECK, ANNOTATE];
 
-// The option for names that are no keywords.
-const ALLOW_UNKNOWN: &str = "allow-unknown";
+// The option for the counts of values and errors.
+const SUMMARY: &str = "summary";
 
 // What it does.
 const ABOUT: &str = "Checks files by a JSON Schema";
@@ -75,7 +76,9 @@ if the `type` of its column has these; if it ends in `.txt`, each line is a stri
 is a line `FILE:LINE:COLUMN: LOCATION: TEXT`, of a record with the position at which the
 record begins. LOCATION is a JSON pointer, and is left out for the root. With `--output json`
 it is an object with `file`, `line`, `position`, `location`, `keyword`, `kind`, `message` and
-`instance`.
+`instance`, and with `--output github` an annotation `::error file=FILE,line=LINE,col=COLUMN::..`.
+With `--output junit` all errors are one document, in which each file is a test suite, and with
+`--output sarif` they are the results of one.
 
 Examples:
   neldrafi check schema.json server.json
@@ -93,12 +96,7 @@ const ARGUMENTS: &[Argument] = &[
         help: "The file of the schema",
     },
     FILES,
-    Argument {
-        name: ALLOW_UNKNOWN,
-        takes: Takes::Nothing,
-        conflicts: &[],
-        help: "Ignore keywords and formats in the schema that are not known; `x-..` is always ignored",
-    },
+    ALLOW_UNKNOWN,
     Argument {
         name: AS,
         takes: Takes::OneOfSome {
@@ -110,12 +108,7 @@ const ARGUMENTS: &[Argument] = &[
     },
     COLOR,
     DELIMITER,
-    Argument {
-        name: DOCUMENT,
-        takes: Takes::Values("URI=FILE"),
-        conflicts: &[],
-        help: "A further document, to which references lead by its URI",
-    },
+    DOCUMENT,
     DRAFT,
     EMPTY,
     Argument {
@@ -136,8 +129,14 @@ const ARGUMENTS: &[Argument] = &[
         help: "The name of standard input, in messages and for what it is",
     },
     NO_HEADER,
-    OUTPUT,
+    MESSAGE_OUTPUT,
     QUIET,
+    Argument {
+        name: SUMMARY,
+        takes: Takes::Nothing,
+        conflicts: &[],
+        help: "Write to standard error how many values and errors each file has, and all together",
+    },
 ];
 
 /// The subcommand.
@@ -164,6 +163,7 @@ struct SchemaCheck<'a, E: RegexEngine> {
     kind: Option<FileKind>,
     // The name of standard input.
     stdin_name: &'a str,
+    has_summary: bool,
     wanted: Wanted,
 }
 
@@ -184,13 +184,16 @@ impl<E: RegexEngine> SchemaCheck<'_, E> {
         opened: OpenedFile<'_>,
         form: &F,
         output: &mut Output<'_>,
-    ) -> Result<u64, Fault>
+    ) -> Result<Counts, Fault>
         requires { IsCompiled E.outcome (lists_in admits accepts is_encoding decoding
             self.now.schema.now) self.now.schema.now }
     {
         let (alloc, file) = (rt.alloc(), opened.file);
         let checked = match opened.kind {
-            FileKind::Json => check_document(alloc, self.schema, file, form, output),
+            FileKind::Json => match check_document(alloc, self.schema, file, form, output) {
+                Ok(errors) => Ok(Counts::of_value(errors)),
+                Err(fault) => Err(fault),
+            },
             FileKind::JsonLines => {
                 check_lines(alloc, self.schema, LineKind::Json, file, form, output)
             }
@@ -200,7 +203,7 @@ impl<E: RegexEngine> SchemaCheck<'_, E> {
             }
         };
         match checked {
-            Ok(errors) => Ok(errors),
+            Ok(counts) => Ok(counts),
             Err(fault) => Err(fault_of(alloc, fault, output)),
         }
     }
@@ -212,7 +215,7 @@ impl<E: RegexEngine> SchemaCheck<'_, E> {
         opened: OpenedFile<'_>,
         form: &F,
         output: &mut Output<'_>,
-    ) -> Result<u64, Fault>
+    ) -> Result<Counts, Fault>
         requires { IsCompiled E.outcome (lists_in admits accepts is_encoding decoding
             self.now.schema.now) self.now.schema.now }
     {
@@ -231,19 +234,19 @@ impl<E: RegexEngine> SchemaCheck<'_, E> {
             &columns,
         );
         match check_table(alloc, self.schema, &columns, &mut table.rows, form, output) {
-            Ok(errors) => Ok(errors),
+            Ok(counts) => Ok(counts),
             Err(fault) => Err(fault_of(alloc, fault, output)),
         }
     }
 
-    // Opens a file, writes its errors, and answers how many there are.
+    // Opens a file, writes its errors, and counts its values and errors.
     fn check_file(
         &self,
         rt: &HostRuntime,
         path: &str,
         subject: Subject<'_>,
         output: &mut Output<'_>,
-    ) -> Result<u64, Fault>
+    ) -> Result<Counts, Fault>
         requires { IsCompiled E.outcome (lists_in admits accepts is_encoding decoding
             self.now.schema.now) self.now.schema.now }
     {
@@ -259,14 +262,25 @@ impl<E: RegexEngine> SchemaCheck<'_, E> {
             subject,
         };
         match self.wanted.form {
-            OutputForm::Text => self.check_as(rt, opened, &TextLines { file: name }, output),
-            OutputForm::Json => self.check_as(rt, opened, &JsonObjects { file: name }, output),
+            MessageForm::Text => self.check_as(rt, opened, &TextLines { file: name }, output),
+            MessageForm::Json => self.check_as(rt, opened, &JsonObjects { file: name }, output),
+            MessageForm::Github => {
+                self.check_as(rt, opened, &GithubAnnotations { file: name }, output)
+            }
+            MessageForm::Junit => self.check_as(rt, opened, &JunitSuite { file: name }, output),
+            MessageForm::Sarif => self.check_as(rt, opened, &SarifResults { file: name }, output),
         }
     }
 
     // Checks a file, reports its fault, and returns its outcome, or `None` if standard output is closed. The errors are
     // the faults that also prevent the check of later files.
-    fn check_and_tell(&self, rt: &HostRuntime, path: &str) -> Result<Option<Outcome>, Fault>
+    fn check_and_tell(
+        &self,
+        rt: &HostRuntime,
+        path: &str,
+        report: &mut Report<'_>,
+        summary: &mut Summary<'_>,
+    ) -> Result<Option<Outcome>, Fault>
         requires { IsCompiled E.outcome (lists_in admits accepts is_encoding decoding
             self.now.schema.now) self.now.schema.now }
     {
@@ -277,9 +291,14 @@ impl<E: RegexEngine> SchemaCheck<'_, E> {
             file: Some(name),
             label: &label,
         };
-        let mut output = Output::new(rt, self.wanted);
-        match self.check_file(rt, path, subject, &mut output) {
-            Ok(count) => Ok(Some(Outcome::of_errors(count))),
+        let mut output = report.begin_file(name)?;
+        let checked = self.check_file(rt, path, subject, &mut output);
+        report.end_file(name, &output, &checked)?;
+        match checked {
+            Ok(counts) => {
+                summary.add(subject, counts)?;
+                Ok(Some(Outcome::of_errors(counts.errors)))
+            }
             Err(fault) => outcome_of_fault(rt, subject, self.wanted, fault),
         }
     }
@@ -289,14 +308,18 @@ impl<E: RegexEngine> SchemaCheck<'_, E> {
         requires { IsCompiled E.outcome (lists_in admits accepts is_encoding decoding
             self.now.schema.now) self.now.schema.now }
     {
+        let mut report = Report::begin(rt, self.wanted)?;
+        let mut summary = Summary::new(rt, self.has_summary.then_some(self.wanted.form));
         let mut outcome = Outcome::AllValid;
         for path in paths {
-            let Some(one) = self.check_and_tell(rt, path)? else {
+            let Some(one) = self.check_and_tell(rt, path, &mut report, &mut summary)? else {
                 // A line was to be written, so there is an error.
                 return Ok(outcome.max(Outcome::Errors));
             };
             outcome = outcome.max(one);
         }
+        report.end()?;
+        summary.end();
         Ok(outcome)
     }
 }
@@ -316,10 +339,10 @@ pub(crate) fn run(rt: &HostRuntime, matches: &ArgMatches<'_>) -> Result<Outcome,
     let path = matches.get_str(SCHEMA).unwrap_or("");
     let schema = read_schema(rt, path)?;
     let draft = draft_of(matches);
-    if !matches.get_flag(ALLOW_UNKNOWN) {
+    if !matches.get_flag(ALLOW_UNKNOWN.name) {
         require_known(rt.alloc(), draft, &schema)?;
     }
-    let further = read_documents(rt, matches.get_strs(DOCUMENT).unwrap_or(&[]))?;
+    let further = read_documents(rt, matches.get_strs(DOCUMENT.name).unwrap_or(&[]))?;
     run_by(rt, matches, draft, &schema, &further)
 }
 
@@ -344,10 +367,10 @@ fn run_by(
             Some(ANNOTATE) => None,
             _ => Some(true),
         },
-        ignore_unknown_formats: matches.get_flag(ALLOW_UNKNOWN),
+        ignore_unknown_formats: matches.get_flag(ALLOW_UNKNOWN.name),
         checks: checks_of(&formats),
         documents: &documents,
-        builder: &EcmaPatterns,
+        builder: &LenientPatterns,
     };
     check_by(rt, matches, schema, &config)
 }
@@ -357,18 +380,20 @@ fn check_by(
     rt: &HostRuntime,
     matches: &ArgMatches<'_>,
     schema: &Value,
-    config: &Config<'_, EcmaPatterns>,
+    config: &Config<'_, LenientPatterns>,
 ) -> Result<Outcome, Fault> {
     let compiled = match Schema::compile(rt.alloc(), schema, config) {
         Ok(compiled) => compiled,
         Err(refusal) => return Err(refusal_fault(rt.alloc(), refusal)),
     };
+    require_checks(rt.alloc(), schema)?;
     let check = SchemaCheck {
         schema: &compiled,
         document: schema,
         tables: TableOptions::of(rt.alloc(), matches)?,
         kind: matches.get_str(AS).and_then(FileKind::named),
         stdin_name: matches.get_str(STDIN_NAME).unwrap_or(STANDARD_INPUT),
+        has_summary: matches.get_flag(SUMMARY),
         wanted: Wanted::of(rt, matches),
     };
     check.check_each(

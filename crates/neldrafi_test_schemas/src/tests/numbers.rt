@@ -7,8 +7,8 @@ use std::alloc::{AllocError, Global};
 use std::test::Fail;
 use strkw_pattern::NoPatterns;
 
-// Two numbers, and whether they are the same.
-const PAIRS: &[(&str, &str, bool)] = &[
+/// Two numbers, and whether they are the same.
+pub const PAIRS: &[(&str, &str, bool)] = &[
     ("1", "1.0", true),
     ("1", "10e-1", true),
     ("1", "1.5", false),

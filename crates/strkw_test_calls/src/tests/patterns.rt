@@ -2,7 +2,10 @@
 
 use std::alloc::{AllocError, Global};
 use std::test::Fail;
-use strkw_ecma::{EcmaPatterns, PatternRefusal, is_valid_regex, why_refused};
+use strkw_ecma::{
+    EcmaPatterns, LenientPatterns, PatternRefusal, is_valid_regex, why_refused,
+    why_refused_leniently,
+};
 use strkw_pattern::{
     BuildRefusal, EngineBuilder, LiteralMatcher, PatternOptimization, RegexEngine, analyze_pattern,
 };
@@ -169,8 +172,8 @@ const SEARCHES: &[Search] = &[
 ];
 
 // Whether the engine of a pattern answers so; out of memory is an error here.
-fn is_found_so(alloc: Global, row: &Search) -> Result<bool, Fail> {
-    match EcmaPatterns.build(alloc, row.pattern) {
+fn is_found_so<B: EngineBuilder>(alloc: Global, builder: &B, row: &Search) -> Result<bool, Fail> {
+    match builder.build(alloc, row.pattern) {
         Ok(engine) => Ok(Some(engine.is_match(alloc, row.text)?) == row.found),
         Err(BuildRefusal::Pattern) => Ok(row.found.is_none()),
         Err(BuildRefusal::Memory) => Err(BuildRefusal::Memory.into()),
@@ -180,7 +183,36 @@ fn is_found_so(alloc: Global, row: &Search) -> Result<bool, Fail> {
 #[test]
 fn patterns_under_refusal(rt: HostRuntime) -> Result<(), Fail> {
     for row in SEARCHES {
-        if !is_found_so(rt.alloc(), row)? {
+        if !is_found_so(rt.alloc(), &EcmaPatterns, row)? {
+            return Err(Fail::new(row.pattern));
+        }
+    }
+    Ok(())
+}
+
+// Patterns with escapes that are taken without the flag `u` alone (ECMA-262, B.1.2, IdentityEscape).
+const LENIENT_SEARCHES: &[Search] = &[
+    Search {
+        pattern: "^[\\w\\-\\.]+\\@\\_\\x41$",
+        text: "a-b.c@_A",
+        found: Some(true),
+    },
+    Search {
+        pattern: "^[a\\-z]\\ \\\"$",
+        text: "b \"",
+        found: Some(false),
+    },
+    Search {
+        pattern: "\\a\\-",
+        text: "",
+        found: None,
+    },
+];
+
+#[test]
+fn lenient_patterns_under_refusal(rt: HostRuntime) -> Result<(), Fail> {
+    for row in LENIENT_SEARCHES {
+        if !is_found_so(rt.alloc(), &LenientPatterns, row)? {
             return Err(Fail::new(row.pattern));
         }
     }
@@ -228,6 +260,31 @@ const REFUSALS: &[Refused] = &[
 fn why_refused_under_refusal(rt: HostRuntime) -> Result<(), Fail> {
     for row in REFUSALS {
         if why_refused(rt.alloc(), row.pattern)? != row.why {
+            return Err(Fail::new(row.pattern));
+        }
+    }
+    Ok(())
+}
+
+const LENIENT_REFUSALS: &[Refused] = &[
+    Refused {
+        pattern: "^[\\w\\-]+\\@\\_$",
+        why: None,
+    },
+    Refused {
+        pattern: "(a)\\-\\1",
+        why: Some(PatternRefusal::BackReference),
+    },
+    Refused {
+        pattern: "\\a\\-",
+        why: Some(PatternRefusal::NotAPattern),
+    },
+];
+
+#[test]
+fn why_refused_leniently_under_refusal(rt: HostRuntime) -> Result<(), Fail> {
+    for row in LENIENT_REFUSALS {
+        if why_refused_leniently(rt.alloc(), row.pattern)? != row.why {
             return Err(Fail::new(row.pattern));
         }
     }

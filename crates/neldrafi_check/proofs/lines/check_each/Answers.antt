@@ -25,5 +25,5 @@ loop-turn-preserved g c = λ text is.
       read.2,
       Appends-trans (g.W.Write.contents c.args.writer.now) _ _ _ _ inv.3 put.1,
       step _ text _ _ _ _ inv.0 _ inv.1 _ _ _ put.0 pushed.0 inv.4 read.0 (c.without_end.ensures ∙ ap without_end (c.deref.ensures.value ∙ read.1))
-          pushed.2 c.in_ok-count.ensures pushed.1 put.2,
+          pushed.2 c.in_ok-counts.ensures.sum pushed.1 put.2,
     )

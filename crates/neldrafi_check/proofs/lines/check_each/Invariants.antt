@@ -17,4 +17,4 @@ invariant-loop-turn g l =
     (text : List ℕ) → reader_remaining g.R.Read.remaining l.initial.reader ≡ Some text
     → (rest : List ℕ) × (written : List ℕ) × (reader_remaining g.R.Read.remaining l.reader ≡ Some rest)
     × Appends (g.W.Write.contents l.initial.writer) (g.W.Write.contents l.writer) written
-    × Going told text (l.turn + 1) l.count rest (written ++ string_bytes l.out)
+    × Going told text (l.turn + 1) l.counts rest (written ++ string_bytes l.out)

@@ -5,7 +5,7 @@ use Rattle.neldrafi_check.proofs.objects.put_all.Goals as goal
 
 pub loop-member-preserved : goal.loop-member-preserved
 loop-member-preserved c =
-    put_next c.args.members.now c.loop-member.member-index _ _ _ _ (omega arith) c.in_ok-value.ensures c.in_ok-put.ensures.ok ∙ c.loop-member.invariant
+    put_next c.args.members.now c.loop-member.member-index c.member-item.result _ _ _ (omega arith) c.member-item.is c.in_ok-value.ensures c.in_ok-put.ensures.ok ∙ c.loop-member.invariant
 
 pub returns : goal.returns
 returns c =

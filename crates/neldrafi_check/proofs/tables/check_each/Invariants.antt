@@ -1,6 +1,6 @@
 use Rattle.std.proofs.Common.{◌≡◌, ◌++◌, ℕ, List, string_bytes}
 use Rattle.std.specs.Io.KnownBytes.{Appends}
-use Rattle.strkw_records.specs.declared.place.Place.{Place}
+use Rattle.neldrafi_csv.specs.declared.place.Place.{Place}
 use Rattle.neldrafi_table.specs.Columns.{columns_seen}
 use Rattle.neldrafi_table.specs.Reading.{HasLeft, delimiter_in, empty_in}
 use Rattle.neldrafi_schema.specs.Meaning.{HasErrors}
@@ -22,5 +22,5 @@ invariant-loop g l =
           → (next : Place) × (rest : List ℕ) × (written : List ℕ) × HasLeft g.R.Read.remaining l.rows next rest
           × Appends (g.W.Write.contents l.initial.writer) (g.W.Write.contents l.writer) written
           × Checking (RecordTold (HasErrors (schemas_in g.E.RegexEngine.outcome schema) lists) (g.F.ErrorForm.writes l.check.form.now) (empty_in l.initial.rows)
-          (columns_seen l.check.columns.now)) (delimiter_in l.initial.rows) place text l.count next rest (written ++ string_bytes l.out);
+          (columns_seen l.check.columns.now)) (delimiter_in l.initial.rows) place text l.counts next rest (written ++ string_bytes l.out);
     }

@@ -1,25 +1,14 @@
 use Rattle.std.proofs.Common.{◌≡◌, ◌∙◌, refl, sym, ap, ℤ, pos, int_lt, Bool, true, false, w64, to_z, of_z}
 use Rattle.std.proofs.Math.Path.{ap₂}
 use Rattle.std.specs.Prelude.{◌&&◌, ◌==◌, Float, unsigned_abs}
-use Rattle.std.specs.Float.{float_zero, two_to, minus_two_to, float_to_signed, float_to_unsigned}
+use Rattle.std.specs.Float.{float_to_signed, float_to_unsigned}
 use Rattle.std.proofs.lemmas.Int.{to_z-of_z}
 use lib.Ieee.{binary64, neg, of_bits}
+use Rattle.neldrafi_schema.proofs.Literals.{zero_is, high_is, low_is}
 use mir.Syntax.{w128}
 use mir.Val.{SFits}
 use Rattle.neldrafi_schema.specs.Numbers.{is_between, is_float_of, is_whole_float}
 use Rattle.neldrafi_schema.proofs.numbers.is_float_of.Goals as goal
-
-zero_is : of_bits binary64 0 ≡ float_zero
-unfolding of_bits
-zero_is = refl
-
-high_is : of_bits binary64 0x43f0_0000_0000_0000 ≡ two_to 64
-unfolding of_bits
-high_is = refl
-
-low_is : neg (of_bits binary64 0x43e0_0000_0000_0000) ≡ minus_two_to 63
-unfolding of_bits neg
-low_is = refl
 
 negative : (z : ℤ) (x : Float) (whole within : Bool) → SFits w128 z → whole ≡ is_whole_float x → whole ≡ true → int_lt (to_z w128 (of_z w128 z)) (pos 0) ≡ true
     → within ≡ is_between (neg (of_bits binary64 0x43e0_0000_0000_0000)) x (of_bits binary64 0)

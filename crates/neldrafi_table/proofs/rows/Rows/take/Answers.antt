@@ -1,48 +1,40 @@
 use Rattle.std.proofs.Common.{rules, ◌≡◌, ◌∙◌, None, Some, refl, subst}
-use Rattle.std.specs.Prelude.{IfOk, IfSome}
-use Rattle.std.proofs.lemmas.Result.{IfErr-weaker}
-use Rattle.csv.specs.Records.{fields_of}
+use Rattle.std.specs.Prelude.{IfOk, IfSome, Result}
+use Rattle.std.proofs.lemmas.Result.{IfOk-weaker}
+use Rattle.neldrafi_csv.specs.Reading.{values_of}
+use Rattle.neldrafi_csv.specs.Records.{IsMisplaced}
 use Rattle.neldrafi_table.specs.declared.rows.Rows.{Rows}
-use Rattle.neldrafi_table.specs.Reading.{IsWhyUnread, TakesNext}
-use Rattle.neldrafi_table.proofs.ReadingLemmas.{ended_ahead, explained, left_unread, taken_ahead, taken_now}
+use Rattle.neldrafi_table.specs.Reading.{TakesNext}
+use Rattle.neldrafi_table.proofs.ReadingLemmas.{ended_ahead, left_unread, taken_ahead, taken_now}
 use Rattle.neldrafi_table.proofs.rows.Rows.take.Goals as goal
 
 pub returns-in_default-clause-taken : goal.returns-in_default-clause-taken
 returns-in_default-clause-taken g c place text left =
     let old = c.args.self.now in
     let rem = g.R.Read.remaining in
-    let new : Rows _ = record { reader = c.read.new.self; row = c.read.new.row; ahead = old.ahead; empty = old.empty; scratch = old.scratch } in
-    let none : old.ahead ≡ None = search rules in
-    let (at, source) = left_unread rem old place text none left in
-    let read = taken_now rem old new c.read.result text (fields_of c.read.new.row) (c.read.ensures.limits ∙ left.0) none c.read.ensures.delimiter
-    (c.read.ensures.«record» text source) in
-    subst (λ p. IfOk c.read.result (λ o. IfSome o (λ line. TakesNext rem old new p text line (fields_of c.read.new.row)))) at read
+    let new : Rows _ = record { reader = c.read.new.self; ahead = old.ahead; empty = old.empty; scratch = old.scratch } in
+    let (at, source) = left_unread rem old place text c.in_default.is left in
+    let read = taken_now rem old new c.read.result text c.in_default.is c.read.ensures.delimiter (c.read.ensures.«record» text source) in
+    subst (λ p. IfOk c.read.result (λ o. IfSome o (λ found. TakesNext rem old new p text found.line (values_of c.read.new.self)
+    × IsMisplaced (values_of c.read.new.self) found.misplaced))) at read
 
 pub returns-in_default-clause-end : goal.returns-in_default-clause-end
 returns-in_default-clause-end g c place text left =
-    let old = c.args.self.now in
-    let none : old.ahead ≡ None = search rules in
-    let (at, source) = left_unread g.R.Read.remaining old place text none left in
-    c.read.ensures.end text source
+    let (at, source) = left_unread g.R.Read.remaining c.args.self.now place text c.in_default.is left in
+    IfOk-weaker c.read.result _ _ (λ o ended none. (ended none).0) (c.read.ensures.end text source)
 
 pub returns-in_default-clause-fault : goal.returns-in_default-clause-fault
 returns-in_default-clause-fault g c place text left =
-    let old = c.args.self.now in
-    let rem = g.R.Read.remaining in
-    let new : Rows _ = record { reader = c.read.new.self; row = c.read.new.row; ahead = old.ahead; empty = old.empty; scratch = old.scratch } in
-    let none : old.ahead ≡ None = search rules in
-    let (at, source) = left_unread rem old place text none left in
-    IfErr-weaker c.read.result _ _ (λ e why. subst (λ p. IsWhyUnread rem old new p text e) at
-    (explained rem old new text e left.0 (c.read.ensures.limits ∙ left.0) none c.read.ensures.delimiter why)) (c.read.ensures.fault text source)
+    let (at, source) = left_unread g.R.Read.remaining c.args.self.now place text c.in_default.is left in rw (← at) (c.read.ensures.fault text source)
 
 pub returns-clause-taken : goal.returns-clause-taken
 returns-clause-taken g c place text left =
     let old = c.args.self.now in
-    let some : old.ahead ≡ Some c.in-Some.line = search rules in
-    taken_ahead g.R.Read.remaining old (record { reader = old.reader; row = old.row; ahead = None; empty = old.empty; scratch = old.scratch }) c.in-Some.line place text some refl refl left
+    let some : old.ahead ≡ Some c.in-Some.«record» = search rules in
+    taken_ahead g.R.Read.remaining old (record { reader = old.reader; ahead = None; empty = old.empty; scratch = old.scratch }) c.in-Some.«record» place text some refl
+    refl left
 
 pub returns-clause-end : goal.returns-clause-end
 returns-clause-end g c place text left =
-    let old = c.args.self.now in
-    let some : old.ahead ≡ Some c.in-Some.line = search rules in
-    ended_ahead g.R.Read.remaining old c.in-Some.line place text some left
+    let some : c.args.self.now.ahead ≡ Some c.in-Some.«record» = search rules in
+    ended_ahead g.R.Read.remaining c.args.self.now c.in-Some.«record» place text some left

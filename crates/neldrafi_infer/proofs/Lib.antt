@@ -1,0 +1,4 @@
+mod TallyLemmas
+mod PropertyLemmas
+mod WordLemmas
+mod LawLemmas

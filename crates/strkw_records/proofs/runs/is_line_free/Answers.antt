@@ -1,5 +1,0 @@
-use Rattle.strkw_records.proofs.RunLemmas.{found-free}
-use Rattle.strkw_records.proofs.runs.is_line_free.Goals as goal
-
-pub returns : goal.returns
-returns c = found-free c.args.bytes.now c.memchr2.result c.is_none.result c.memchr2.ensures c.is_none.ensures

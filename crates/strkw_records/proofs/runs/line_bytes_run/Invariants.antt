@@ -1,6 +1,0 @@
-use Rattle.std.proofs.Common.{take}
-use Rattle.strkw_records.specs.Lines.{AreLineBytes}
-use Rattle.strkw_records.proofs.runs.line_bytes_run.Given as goal
-
-abbrev pub invariant-loop-at : goal.invariant-loop-at
-invariant-loop-at l = AreLineBytes (take l.at l.bytes)
