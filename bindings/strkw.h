@@ -7,6 +7,8 @@
    format and are no encoding. NULL with a count of 0 is an empty text, list or buffer everywhere. NULL with another
    count is refused: a format and an encoding answer no, the other functions STRKW_NULL.
 
+   A call took at most 80 KB of stack as far as measured: a thread with a stack of 64 KB is too small.
+
    Nothing is kept between calls but a strkw_schema. Any number of threads may call at once, also with the same
    strkw_schema, each with buffers of its own. There is no lock. A fork changes nothing of that. The formats that answer
    by a bool, and the encodings base32, base32hex and base16, take no memory. All other functions call malloc, realloc
@@ -84,9 +86,9 @@ enum {
 uint8_t strkw_answer(const uint8_t *requests, size_t count, uint8_t *out, size_t room, size_t *written);
 
 /* Options of the functions below. By 0 the formats are checked in every draft, and an unknown one is refused. */
-#define STRKW_FORMATS_AS_DRAFT ((uint32_t)1)       /* drafts 4, 6 and 7 check formats, 2019-09 and 2020-12 do not */
-#define STRKW_IGNORE_UNKNOWN_FORMATS ((uint32_t)2) /* an unknown format lets every text pass */
-#define STRKW_COMPANION_FORMATS ((uint32_t)4)      /* email and regex are known, from draft 7 on the two of IDN too */
+#define STRKW_FORMATS_AS_DRAFT UINT32_C(1)       /* drafts 4, 6 and 7 check formats, 2019-09 and 2020-12 do not */
+#define STRKW_IGNORE_UNKNOWN_FORMATS UINT32_C(2) /* an unknown format lets every text pass */
+#define STRKW_COMPANION_FORMATS UINT32_C(4)      /* email and regex are known, from draft 7 on the two of IDN too */
 
 /* Checks many texts by one schema object, which is compiled once: JSON, of a draft.
    A pattern is one of ECMA-262 in Unicode mode, of a part of its syntax: no back reference, 2,000 characters, groups

@@ -163,7 +163,7 @@ def by_make(rows, folder):
     if not having("make", "`make install`"):
         return
     root, words = folder / "a root", ["make", "-C", TOP, "PREFIX=/opt/a prefix", f"DESTDIR={folder / 'a root'}"]
-    told = "make install PREFIX=/usr/local DESTDIR=\nmake uninstall PREFIX=/usr/local DESTDIR=\n"
+    told = "make install PREFIX=/usr/local DESTDIR= LIBDIR=lib\nmake uninstall PREFIX=/usr/local DESTDIR= LIBDIR=lib\n"
     rows.ran("make alone tells what there is", ["make", "-s", "-C", TOP], told, env=with_variables())
     for time in ["once", "again"]:
         rows.ran(f"make install, {time}", [*words, "install"], env=with_variables())
@@ -172,6 +172,22 @@ def by_make(rows, folder):
     rows.ran("make uninstall", [*words, "uninstall"], env=with_variables())
     rows.equal("make uninstall leaves no file", [path for path in files_below(root) if not (root / path).is_dir()], [])
     rows.row("make uninstall takes the prefix away", not (root / "opt/a prefix").exists(), files_below(root))
+    in_another_folder(rows, root, words)
+
+
+def in_another_folder(rows, root, words):
+    """The Makefile with another folder of libraries, and with one that is not below the prefix."""
+    for libdir in ("lib/x86_64-linux-gnu", "/opt/a prefix/lib64"):
+        below = libdir.removeprefix("/opt/a prefix/")
+        rows.ran(f"make install LIBDIR={libdir}", [*words, f"LIBDIR={libdir}", "install"], env=with_variables())
+        found = [path for path in files_below(root / "opt/a prefix") if not (root / "opt/a prefix" / path).is_dir()]
+        wanted = sorted(path.replace("lib/", f"{below}/", 1) if path.startswith("lib/") else path for path in INSTALLED)
+        rows.equal(f"make install LIBDIR={libdir} puts the files", sorted(found), wanted)
+        flags = with_variables(PKG_CONFIG_PATH=root / "opt/a prefix" / below / "pkgconfig")
+        if having("pkg-config", "the flags of LIBDIR"):
+            rows.ran(f"pkg-config finds the libraries in {libdir}", ["pkg-config", "--exists", "strkw"], "", env=flags)
+        rows.ran(f"make uninstall LIBDIR={libdir}", [*words, "uninstall"], env=with_variables())
+    rows.ran("make install beside the prefix", [*words, "LIBDIR=/usr/lib", "install"], status=2, env=with_variables())
 
 
 def rows_of(rows):

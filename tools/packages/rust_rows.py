@@ -24,7 +24,7 @@ def declarations(rows):
     named = {name: 2 for words in judges for name in re.findall(r"strkw_\w+", words)}
     rows.equal("strkw-sys declares the functions", {**named, **parameters(declared, ":")}, parameters(header, " "))
     statuses = dict(re.findall(r"^    (STRKW_\w+) = (\d+)", header, re.M))
-    options = dict(re.findall(r"^#define (STRKW_\w+) \(\(uint32_t\)(\d+)\)", header, re.M))
+    options = dict(re.findall(r"^#define (STRKW_\w+) UINT32_C\((\d+)\)", header, re.M))
     constants = dict(re.findall(r"^pub const (STRKW_\w+): u\w+ = (\d+);", declared, re.M))
     rows.equal("strkw-sys has the statuses and options", constants, {**statuses, **options})
 

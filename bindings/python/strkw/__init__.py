@@ -20,7 +20,8 @@ The strings of an array of Apache Arrow are checked where they lie, by `check_ar
 companion_formats=True it knows `email` and `regex`, and from draft 7 on `idn-email` and `idn-hostname`. `checks` of a
 Schema registers others.
 
-The library is the file that the environment variable STRKW_LIBRARY names, or else libstrkw.so: in the folder of this
+The library needs an x86-64 processor of the level x86-64-v2, as those since about 2009 are, which the name of a wheel
+cannot say. It is the file that the environment variable STRKW_LIBRARY names, or else libstrkw.so: in the folder of this
 package, in `bindings/out`, or where the loader of the system finds it.
 """
 from strkw._formats import (

@@ -14,6 +14,8 @@ NULL = 3
 _CALLED = (NUMBER, NUMBER, BYTES, COUNT, BUFFER, COUNT, BUFFER, COUNT, BUFFER, COUNT)
 # By the bytes of an offset: the function, and the word for such numbers in a memoryview.
 _WIDTHS = {4: (function("check-offsets32", *_CALLED), "i"), 8: (function("check-offsets", *_CALLED), "q")}
+# The formats of items that are bytes, and of whole numbers in the machine's own order (the module struct).
+_BYTE_FORMATS, _NUMBER_FORMATS = ("b", "B", "c"), ("i", "I", "l", "L", "q", "Q", "n", "N")
 # For each byte of a bitmap a byte for each of its bits, the lowest first: NULL where the bit is not set.
 _NULLS = [bytes(0 if byte >> bit & 1 else NULL for bit in range(8)) for byte in range(256)]
 _WRITABLE = 1
@@ -27,9 +29,10 @@ class _Buffer(ctypes.Structure):
                 ("internal", BUFFER)]
 
 
-_TAKE, _GIVE_BACK = ctypes.pythonapi.PyObject_GetBuffer, ctypes.pythonapi.PyBuffer_Release
-_TAKE.argtypes, _TAKE.restype = (ctypes.py_object, ctypes.POINTER(_Buffer), ctypes.c_int), ctypes.c_int
-_GIVE_BACK.argtypes, _GIVE_BACK.restype = (ctypes.POINTER(_Buffer),), None
+# Functions of this package's own: the types of those of `ctypes.pythonapi` are seen, and set, by every package.
+_TAKE = ctypes.PYFUNCTYPE(ctypes.c_int, ctypes.py_object, ctypes.POINTER(_Buffer), ctypes.c_int)(
+    ("PyObject_GetBuffer", ctypes.pythonapi))
+_GIVE_BACK = ctypes.PYFUNCTYPE(None, ctypes.POINTER(_Buffer))(("PyBuffer_Release", ctypes.pythonapi))
 
 
 @contextmanager
@@ -43,14 +46,24 @@ def _address(data: Any, flags: int = 0) -> Iterator[Optional[int]]:
         _GIVE_BACK(ctypes.byref(taken))
 
 
-def _view(data: Any, what: str) -> memoryview:
-    """The bytes of a buffer, without a copy; there are none in None."""
+def _taken(data: Any, what: str) -> memoryview:
+    """The items of a buffer in one dimension, without a copy; there are none in None."""
     try:
         view = memoryview(b"" if data is None else data)
     except TypeError:
         raise TypeError(f"a buffer is wanted for the {what}, and no {type(data).__name__}") from None
+    if view.ndim != 1:
+        raise ValueError(f"the buffer of the {what} has {view.ndim} dimensions, and one is wanted")
     if not view.c_contiguous:
         raise ValueError(f"the buffer of the {what} has gaps")
+    return view
+
+
+def _view(data: Any, what: str) -> memoryview:
+    """The bytes of a buffer of bytes, without a copy."""
+    view = _taken(data, what)
+    if view.format.removeprefix("@") not in _BYTE_FORMATS:
+        raise ValueError(f"the buffer of the {what} has the format {view.format!r}, and bytes are wanted")
     return view.cast("B") if view.nbytes else memoryview(b"")
 
 
@@ -94,13 +107,15 @@ class Array:
 
 
 def _numbers(offsets: Any, width: int) -> memoryview:
-    """The offsets, without a copy."""
-    view = _view(offsets, "offsets")
-    itemsize = memoryview(offsets).itemsize if view else 1
-    if itemsize not in (1, width) or len(view) % width:
+    """The offsets, without a copy: such numbers, or their bytes."""
+    view = _taken(offsets, "offsets")
+    if view.itemsize not in (1, width) or view.nbytes % width:
         raise ValueError(f"the offsets are no numbers of {8 * width} bits")
+    if view.format.removeprefix("@") not in (_BYTE_FORMATS if view.itemsize == 1 else _NUMBER_FORMATS):
+        raise ValueError(f"the offsets have the format {view.format!r}, and whole numbers of {8 * width} bits in the "
+                         "machine's own order are wanted")
     # Arrow lets an array with no text have no offset.
-    return (view or memoryview(bytes(width))).cast(_WIDTHS[width][1])
+    return (view.cast("B") if view.nbytes else memoryview(bytes(width))).cast(_WIDTHS[width][1])
 
 
 def _nulls(validity: Any, first: int, count: int) -> bytes:

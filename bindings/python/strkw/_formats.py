@@ -1,6 +1,7 @@
 """One text by a format or an encoding, and formats for python-jsonschema."""
 import ctypes
-from typing import TYPE_CHECKING, Iterable, Union
+from functools import partial
+from typing import TYPE_CHECKING, Any, Iterable, Union
 
 from strkw._library import BYTES, COUNT, WRITTEN, BytesLike, bytes_of, function, written
 
@@ -107,6 +108,11 @@ def answer(requests: BytesLike) -> bytes:
     return written(_ANSWER, data, len(data), room=max(256, 2 * len(data)))[1]
 
 
+def _admits(name: str, instance: Any) -> bool:
+    """Whether a format admits an instance. A function of the module, so that pickle carries a FormatChecker."""
+    return not isinstance(instance, str) or is_format(name, instance)
+
+
 def jsonschema_format_checker(names: Iterable[str] = (*FORMATS, "email", *DECIDED_FORMATS)) -> "FormatChecker":
     """A FormatChecker of the package jsonschema that knows these formats alone, by this library.
 
@@ -122,5 +128,5 @@ def jsonschema_format_checker(names: Iterable[str] = (*FORMATS, "email", *DECIDE
     for name in names:
         if name not in FORMAT_CHECKS and name not in DECIDED_FORMATS:
             raise KeyError(name)
-        made.checks(name)(lambda instance, name=name: not isinstance(instance, str) or is_format(name, instance))
+        made.checks(name)(partial(_admits, name))
     return made

@@ -3,6 +3,7 @@ import ctypes
 import json
 from functools import partial
 from itertools import accumulate
+from math import isinf
 from typing import Any, Callable, Iterable, Iterator, Literal, Mapping, Optional, Sequence, Union
 
 from strkw._arrays import Array, Buffer, array_of
@@ -37,18 +38,18 @@ class ValidationError(ValueError):
     """What is wrong with a text, as a keyword of a schema object has it."""
 
     path: str
-    """The place of the keyword in the schema object, a JSON pointer: `/format`."""
+    """The place of the keyword in the schema object, a JSON pointer: `/format`; the root for what is no text."""
     keyword: str
-    """The keyword: `format`."""
+    """The keyword: `format`, or none for what is no text."""
     message: str
     """What is wrong: `"2023-02-29" is not a "date"`."""
 
     def __init__(self, keyword: str, message: str) -> None:
         super().__init__(keyword, message)
-        self.path, self.keyword, self.message = "/" + keyword, keyword, message
+        self.path, self.keyword, self.message = f"/{keyword}" if keyword else "", keyword, message
 
     def __str__(self) -> str:
-        return f"{self.path}: {self.message}"
+        return f"{self.path}: {self.message}" if self.path else self.message
 
 
 def _source(schema: Any) -> bytes:
@@ -83,6 +84,44 @@ def _options(formats: Any, unknown_formats: Any, companion_formats: Any) -> int:
             | (_COMPANION_FORMATS if companion_formats else 0))
 
 
+def _has_lone_surrogate(value: Any) -> bool:
+    """Whether a JSON value has half a pair of surrogates, which is no character."""
+    try:
+        json.dumps(value, ensure_ascii=False).encode()
+    except UnicodeEncodeError:
+        return True
+    return False
+
+
+def _why_unread(source: bytes) -> str:
+    """Why the library reads no schema object from these bytes."""
+    far: list[str] = []
+    words: list[str] = []
+
+    def number(word: str) -> float:
+        if isinf(float(word)):
+            far.append(word)
+        return 0.0
+
+    try:
+        value = json.loads(source.decode(), parse_float=number, parse_int=number, parse_constant=words.append)
+    except UnicodeDecodeError as error:
+        return f"the schema is not UTF-8: byte {error.start} begins no character"
+    except json.JSONDecodeError as error:
+        return f"the schema is not JSON: {error}"
+    except RecursionError:
+        return "the schema nests too deep"
+    if words:
+        return f"the schema is not JSON: {words[0]} is no value"
+    if not isinstance(value, dict):
+        return "the schema is no JSON object"
+    if far:
+        return f"the schema has a number beyond the range of binary64: {far[0][:40]}"
+    if _has_lone_surrogate(value):
+        return "the schema has a lone surrogate, which is no character"
+    return "the schema nests too deep"
+
+
 def _require_done(status: int, schema: Sequence[Any]) -> None:
     """Raises what a status says of a schema, given by its draft, options and bytes."""
     if status == OUT_OF_MEMORY:
@@ -91,7 +130,7 @@ def _require_done(status: int, schema: Sequence[Any]) -> None:
         _, text = written(_REFUSAL, *schema, room=256)
         raise ValueError(f"the schema object is refused at {text.decode()}")
     if status != DONE:
-        raise ValueError("the schema is no JSON object")
+        raise ValueError(_why_unread(schema[2]))
 
 
 class _Compiled:
@@ -201,14 +240,6 @@ class Schema:
         del members["format"]
         return json.dumps(members).encode()
 
-    def _text(self, text: Text) -> tuple[bytes, str]:
-        """A text as bytes and as a str."""
-        data = bytes_of(text)
-        try:
-            return data, data.decode()
-        except UnicodeDecodeError:
-            raise ValueError("the text is not UTF-8") from None
-
     def _lines(self, data: bytes, word: str) -> Iterator[tuple[str, str]]:
         """The keyword and what stands behind it, of each line that begins with the word."""
         status, out = written(_ERRORS_BY, self._compiled.place, data, len(data), room=256)
@@ -223,9 +254,9 @@ class Schema:
         return _verdicts(self._compiled.check, self._compiled.schema, texts)
 
     def is_valid(self, text: Text) -> bool:
-        """Whether a text is valid. ValueError where it is not UTF-8, as a lone surrogate."""
-        data, characters = self._text(text)
-        return self._verdicts([data])[0] is True and (self._check is None or bool(self._check(characters)))
+        """Whether a text is valid. What is not UTF-8, as a lone surrogate, is not."""
+        data = bytes_of(text)
+        return self._verdicts([data])[0] is True and (self._check is None or bool(self._check(data.decode())))
 
     def are_valid(self, texts: Iterable[Text]) -> list[Optional[bool]]:
         """Whether each of a list of texts is valid, and None for what is not UTF-8."""
@@ -281,8 +312,14 @@ class Schema:
 
         >>> [error.keyword for error in Schema(7, {"format": "date", "maxLength": 5}).iter_errors("2023-02-29")]
         ['format', 'maxLength']
+
+        What is not UTF-8, as a lone surrogate, has one error, of no keyword.
         """
-        data, characters = self._text(text)
+        data = bytes_of(text)
+        try:
+            characters = data.decode()
+        except UnicodeDecodeError:
+            return iter([ValidationError("", "the text is not UTF-8")])
         found = [ValidationError(keyword, told) for keyword, told in self._lines(data, "error")]
         if self._check is not None and not self._check(characters):
             shown = json.dumps(characters, ensure_ascii=False)
