@@ -113,11 +113,13 @@ def _admits(name: str, instance: Any) -> bool:
     return not isinstance(instance, str) or is_format(name, instance)
 
 
-def jsonschema_format_checker(names: Iterable[str] = (*FORMATS, "email", *DECIDED_FORMATS)) -> "FormatChecker":
+def jsonschema_format_checker(names: Iterable[str] = (*FORMATS, "email", *DECIDED_FORMATS), *,
+                              draft: int = 7) -> "FormatChecker":
     """A FormatChecker of the package jsonschema that knows these formats alone, by this library.
 
-    Draft7Validator({"format": "date"}, format_checker=jsonschema_format_checker()). KeyError for a name that is_format
-    does not know, ImportError where the package is not installed.
+    Draft7Validator({"format": "date"}, format_checker=jsonschema_format_checker()). With draft=4 or 6 `hostname` is
+    that of these drafts. KeyError for a name that is_format does not know, ImportError where the package is not
+    installed.
     """
     try:
         from jsonschema import FormatChecker
@@ -128,5 +130,6 @@ def jsonschema_format_checker(names: Iterable[str] = (*FORMATS, "email", *DECIDE
     for name in names:
         if name not in FORMAT_CHECKS and name not in DECIDED_FORMATS:
             raise KeyError(name)
-        made.checks(name)(partial(_admits, name))
+        is_older = name == "hostname" and draft in (4, 6)
+        made.checks(name)(partial(_admits, "hostname-draft4" if is_older else name))
     return made
