@@ -76,7 +76,7 @@ pub(crate) fn command<'a>(alloc: Global) -> Result<Command<'a>, AllocError> {
         .bin_name(NAME)
 }
 
-/// The form of messages that the words ask for.
+/// The form of messages that the command line names.
 pub(crate) fn form_of(matches: &ArgMatches<'_>) -> MessageForm {
     match matches.subcommand() {
         Some((_, matches)) => MessageForm::of(matches),

@@ -18,7 +18,7 @@ fn results_start(alloc: Global) -> Result<String, AllocError> {
     )
 }
 
-// What stands behind the test cases of a file, by what its check came to.
+// The end of the test suite of a file, by the result of its check.
 fn suite_end(
     alloc: Global,
     suite: JunitSuite<'_>,
@@ -47,7 +47,7 @@ pub(crate) struct Report<'a> {
 }
 
 impl<'a> Report<'a> {
-    /// Writes what stands before all files.
+    /// Writes the beginning of the document, before all files.
     pub(crate) fn begin(rt: &'a HostRuntime, wanted: Wanted) -> Result<Report<'a>, Fault> {
         let report = Report {
             rt,
@@ -70,7 +70,7 @@ impl<'a> Report<'a> {
         write_text(self.rt, text)
     }
 
-    /// Writes what stands before the messages about a file, and returns where these are written to.
+    /// Writes the beginning of a file's messages, and returns where these are written to.
     pub(crate) fn begin_file(&self, name: &str) -> Result<Output<'a>, Fault> {
         if self.wanted.form == MessageForm::Junit {
             let mut text = String::new(self.rt.alloc());
@@ -80,7 +80,7 @@ impl<'a> Report<'a> {
         Ok(Output::after(self.rt, self.wanted, self.has_lines))
     }
 
-    /// Writes what stands behind the messages about a file, by what its check came to. After a fault that prevents the
+    /// Writes the end of the messages about a file, by the result of its check. After a fault that prevents the
     /// check of later files it writes nothing.
     pub(crate) fn end_file(
         &mut self,
@@ -100,7 +100,7 @@ impl<'a> Report<'a> {
         Ok(())
     }
 
-    /// Writes what stands behind all files.
+    /// Writes the end of the document, after all files.
     pub(crate) fn end(&self) -> Result<(), Fault> {
         match self.wanted.form {
             MessageForm::Junit => self.write(SUITES_END),

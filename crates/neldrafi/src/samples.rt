@@ -46,7 +46,7 @@ impl From<PropertyFault> for Fault {
 }
 
 impl<'a> Sample<'a> {
-    /// No files were read. Tables are to be read as these options say.
+    /// No files yet. Tables are read by these options.
     pub(crate) fn new(alloc: Global, tables: TableOptions) -> Result<Sample<'a>, AllocError> {
         Ok(Sample {
             shape: Shape::new(alloc)?,
